@@ -6,6 +6,7 @@ use Rattle.image_access.specs.declared.storage.Format.TheVariants.{Qcow2}
 use Rattle.qcow2_image.specs.declared.image.Qcow2.{Qcow2 as Image}
 use Rattle.qcow2_session.specs.Sessions.{ReadsInto}
 use Rattle.program_parts.specs.declared.comparing.Comparison.{Comparison}
+use Rattle.qcow2_image.specs.ImageInvariant.{in_image}
 
 -- ---- what is so of an answer
 
@@ -19,11 +20,11 @@ if_ok {A} {E} P r v is h = subst (λ (q : Result A E). IfOk q P) is h
 
 module _ {S F : Type 0} (view : S → StorageView) (backing : F → BackingView) (old new : Image S F) (at : ℕ) (bytes : List ℕ) where
   pub shown_if : (r : Result (Unit {0}) ImageError) → ReadsInto view backing old new at bytes r → (seen_image view backing old).is_honest → OnOk r (Shows (seen_image view backing old).disk at bytes)
-  shown_if (Ok x) sees sound = ((sees []).answer sound).1.0
+  shown_if (Ok x) sees sound = ((sees (in_image [])).answer sound).1.0
   shown_if (Err e) sees sound = tt
 
   pub seen_still : (r : Result (Unit {0}) ImageError) → ReadsInto view backing old new at bytes r → (seen_image view backing old).is_honest → OnOk r (IsSeenAs (seen_image view backing old).disk (seen_image view backing new))
-  seen_still (Ok x) sees sound = let done = (sees []).answer sound in record { honest = done.0; disk = ap (λ g. g.disk) done.1.1 }
+  seen_still (Ok x) sees sound = let done = (sees (in_image [])).answer sound in record { honest = done.0; disk = ap (λ g. g.disk) done.1.1 }
   seen_still (Err e) sees sound = tt
 
 -- ---- a range of both

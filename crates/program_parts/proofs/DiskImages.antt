@@ -1,4 +1,5 @@
 -- An image that is filled with the bytes of a disk.
+use Rattle.qcow2_image.specs.ImageInvariant.{in_image, Mappings, disk_of}
 use Rattle.program_parts.proofs.Common.{common_steps, is_some, BackingView, StorageView, byte_at, header, known_byte, IsConsistent, Setting, IsOpened, guest_of, Shows, Disk, disk, disk_with, checkpoint_at, LeavesKept, header_rest_same, whole, Qcow2, storage_of_image, abstract_of, IsRawOf, IsNewDisk, disk_alone, zeros_below, IsKeptQuietly, IsSeenAs, SeenDisk, cluster_size, count_width, HeaderFields, contents_in}
 use Rattle.std.proofs.Common.{◌≡◌, ◌⊎◌, ◌+◌, ◌<◌, ◌≤◌, ◌∷◌, ◌++◌, ⊎_elim, inl, inr, ℕ, List, [], length, take, refl, sym, ap, ◌∙◌, subst, arith, false, Option, Some, Result, Ok, Err, IfOk, drop, replicate}
 use Rattle.std.proofs.lemmas.List.{get_or-replicate, length-replicate}
@@ -23,6 +24,8 @@ use Rattle.program_parts.proofs.Placed.{gets_held, stays_held}
 use Rattle.program_parts.specs.DiskImages.{FillsAt, FillsDisk, FillsUpTo, HoldsDisk, IsDiskMade, IsWholeOfDisk, ReplacesByDisk, ShowsNothing}
 use Rattle.program_parts.specs.declared.disk_images.Layout.{Layout}
 use Rattle.program_parts.specs.Places.{GetsName, NameView, StaysNamed}
+use Rattle.qcow2_image.specs.declared.mapping.Place.TheVariants.{Image}
+use Rattle.qcow2_image.proofs.Images.Places.{from_image}
 
 -- ---- lists in a row
 
@@ -47,7 +50,7 @@ shows_as from now at end bytes seen shows honest within =
 -- ---- one range more
 
 module _ {S F : Type 0} (view : S → StorageView) (backing : F → BackingView) (old mid new : Qcow2 S F) (read chunk : List ℕ) (first : ImportsAll view backing old mid read (Ok tt)) where
-  so_far : (out : List (Option Prepared)) → AnsweredEffect (abstract_of view backing old out) (abstract_of view backing mid out) (given_of 0 (read ++ chunk) ∷ []) []
+  so_far : (out : Mappings) → AnsweredEffect (abstract_of view backing old out) (abstract_of view backing mid out) (given_of 0 (read ++ chunk) ∷ []) []
       (guest_of (abstract_of view backing mid out) ≡ with_disk (guest_of (abstract_of view backing old out)) (with_bytes (guest_of (abstract_of view backing old out)).disk 0 (take (length read) (read ++ chunk))))
   so_far out = first_of read (read ++ chunk) (length read) refl (front_is read chunk) (abstract_of view backing old out) (abstract_of view backing mid out) (first out)
 
@@ -64,21 +67,29 @@ module _ {S F : Type 0} (view : S → StorageView) (backing : F → BackingView)
   -- it is zeros, and was zeros
   more_zeros : chunk ≡ replicate (length chunk) 0 → (size : ℕ) → length read + length chunk ≤ size → ShowsNothing view backing size old → ImportsAll view backing old mid (read ++ chunk) (Ok tt)
   more_zeros zeros size fits nothing out =
-      let d = (guest_of (abstract_of view backing old out)).disk in
-      let there : Shows (with_bytes d 0 read) (0 + length read) chunk = λ i lt.
-      let inside : i < size = omega (arith, lt, fits) in
-      byte_out d 0 read (0 + length read + i) (inr (omega arith))
-      ∙ zero_at d (length read + i) (0 + length read + i) (omega arith) (omega (arith, lt, fits)) nothing
-      ∙ ap known_byte (sym (ap (λ b. byte_at b i) zeros ∙ get_or-replicate (length chunk) i 0 0 lt))
-      in
-      let same : with_bytes d 0 read ≡ with_bytes d 0 (read ++ chunk) = sym (shown_same (with_bytes d 0 read) (0 + length read) chunk there) ∙ with_both d 0 read chunk in
-      does_if (λ e. subst (λ (k : Disk). guest_of (abstract_of view backing mid out) ≡ with_disk (guest_of (abstract_of view backing old out)) k) (ap (λ (b : List ℕ). with_bytes d 0 b) (front_is read chunk) ∙ same) e) (so_far out)
+      let does = so_far out in
+      record {
+        acts = does.acts;
+        answer = λ sound. let a = does.answer sound in (a.0, with_zeros (guest_of (abstract_of view backing old out)).disk (from_image (λ place. Shows (disk_of view backing place old) 0 (replicate size 0)) sound nothing) a.1);
+      }
     where
       zero_at : (d : Disk) (o place : ℕ) → place ≡ o → o < size → Shows d 0 (replicate size 0) → d.value place ≡ known_byte 0
       zero_at d o place is lt shows =
           let long = length-replicate {A = ℕ} size 0 in
           let at : place ≡ 0 + o = omega (arith, is) in
           ap d.value at ∙ shows o (omega (arith, lt, long)) ∙ ap known_byte (get_or-replicate size o 0 0 lt)
+
+      with_zeros : (d : Disk) → Shows d 0 (replicate size 0) → guest_of (abstract_of view backing mid out) ≡ with_disk (guest_of (abstract_of view backing old out)) (with_bytes d 0 (take (length read) (read ++ chunk)))
+          → guest_of (abstract_of view backing mid out) ≡ with_disk (guest_of (abstract_of view backing old out)) (with_bytes d 0 (read ++ chunk))
+      with_zeros d shows e =
+          let there : Shows (with_bytes d 0 read) (0 + length read) chunk = λ i lt.
+          let inside : i < size = omega (arith, lt, fits) in
+          byte_out d 0 read (0 + length read + i) (inr (omega arith))
+          ∙ zero_at d (length read + i) (0 + length read + i) (omega arith) (omega (arith, lt, fits)) shows
+          ∙ ap known_byte (sym (ap (λ b. byte_at b i) zeros ∙ get_or-replicate (length chunk) i 0 0 lt))
+          in
+          let same : with_bytes d 0 read ≡ with_bytes d 0 (read ++ chunk) = sym (shown_same (with_bytes d 0 read) (0 + length read) chunk there) ∙ with_both d 0 read chunk in
+          subst (λ (k : Disk). guest_of (abstract_of view backing mid out) ≡ with_disk (guest_of (abstract_of view backing old out)) k) (ap (λ (b : List ℕ). with_bytes d 0 b) (front_is read chunk) ∙ same) e
 
 module _ {S F : Type 0} (view : S → StorageView) (backing : F → BackingView) (old : Qcow2 S F) where
   -- nothing yet
@@ -124,7 +135,7 @@ module _ {S F : Type 0} (view : S → StorageView) (backing : F → BackingView)
 -- ---- all of it, flushed
 
 pub fills_flushed : {S F : Type 0} (view : S → StorageView) (backing : F → BackingView) (old mid new : Qcow2 S F) (n : ℕ) (from : SeenDisk)
-    → ((out : List (Option Prepared)) → (abstract_of view backing old out).is_sound → n ≡ (guest_of (abstract_of view backing old out)).disk.size)
+    → ((out : Mappings) → (abstract_of view backing old out).is_sound → n ≡ (guest_of (abstract_of view backing old out)).disk.size)
     → FillsUpTo view backing old mid n from → FlushesImage view backing mid new (Ok tt) → FillsDisk view backing old new n from
 fills_flushed view backing old mid new n from sized all flush = record {
   bytes = all.bytes;
@@ -149,13 +160,13 @@ new_disk_zeros Mode.WriteData n b new o = new.zeros o
 module _ {S F : Type 0} (view : S → StorageView) (backing : F → BackingView) where
   -- it is zeros once it is opened
   pub opened_nothing : (mode : PreallocateMode) (n k : ℕ) (created : StorageView) (image : Qcow2 S F) → IsNewDisk mode n (byte_at created.contents) → IsConsistent (byte_at created.contents) → IsKeptSince created (view (storage_of_image image))
-      → IsOpened (abstract_of view backing image []) → is_some image.backing ≡ false → ShowsNothing view backing k image
+      → IsOpened (abstract_of view backing image (in_image [])) → is_some image.backing ≡ false → ShowsNothing view backing k image
   opened_nothing mode n k created image new consistent kept opened alone i lt =
       let b = byte_at created.contents in
       let m = checkpoint_at (disk b zeros_below) b in
       let start : LeavesKept zeros_below m created = record { consistent = consistent; rest = header_rest_same b; size = inl refl; values = λ o. inl refl } in
       let left = kept.contents zeros_below m start start in
-      let v = abstract_of view backing image [] in
+      let v = abstract_of view backing image (in_image []) in
       let stored = byte_at (view (storage_of_image image)).contents in
       let here : (disk stored zeros_below).value (0 + i) ≡ known_byte 0 = ⊎_elim (λ same. same ∙ new_disk_zeros mode n b new (0 + i)) (λ given. absurd given) (left.values (0 + i)) in
       let inside : i < k = let long = length-replicate {A = ℕ} k 0 in omega (arith, lt, long) in
@@ -163,15 +174,15 @@ module _ {S F : Type 0} (view : S → StorageView) (backing : F → BackingView)
       (subst (λ known. (disk known zeros_below).value (0 + i) ≡ known_byte (byte_at (replicate k 0) i)) (sym opened.clean) (here ∙ ap known_byte (sym (get_or-replicate k i 0 0 inside))))
 
   -- the image has the bytes that it was filled with
-  pub disk_made : (old new : Qcow2 S F) (n : ℕ) (from : SeenDisk) (layout : Layout) (h : HeaderFields) → SameFormat h old.file.header.fields → cluster_size h ≡ layout.cluster → count_width (header (contents_in view new.file)) ≡ layout.width → IsOpened (abstract_of view backing old []) → is_some old.backing ≡ false → (from.is_honest → n ≡ from.disk.size) → FillsDisk view backing old new n from
+  pub disk_made : (old new : Qcow2 S F) (n : ℕ) (from : SeenDisk) (layout : Layout) (h : HeaderFields) → SameFormat h old.file.header.fields → cluster_size h ≡ layout.cluster → count_width (header (contents_in view new.file)) ≡ layout.width → IsOpened (abstract_of view backing old (in_image [])) → is_some old.backing ≡ false → (from.is_honest → n ≡ from.disk.size) → FillsDisk view backing old new n from
       → IsDiskMade from layout n (view (storage_of_image new))
   disk_made old new n from layout h format cluster width opened alone count fills =
-      let w = abstract_of view backing new [] in
-      let does = fills.filled [] in
+      let w = abstract_of view backing new (in_image []) in
+      let does = fills.filled (in_image []) in
       let done = does.answer opened.sound in
       let clean = done.1.3 in
-      let is_whole = whole view backing new [] done.0 in
-      let setting : w.setting ≡ (abstract_of view backing old []).setting = (does.acts.works opened.sound).setting in
+      let is_whole = whole view backing new (in_image []) done.0 in
+      let setting : w.setting ≡ (abstract_of view backing old (in_image [])).setting = (does.acts.works opened.sound).setting in
       let below : w.setting.backing ≡ zeros_below = ap (λ (x : Setting). x.backing) setting ∙ none_below view backing old.backing alone in
       let stored = byte_at (view (storage_of_image new)).contents in
       let is_disk : IsRawOf (disk_alone stored) fills.bytes =
@@ -196,7 +207,7 @@ module _ {S F : Type 0} (view : S → StorageView) (backing : F → BackingView)
       }
 
 -- so it has those of a disk that was read before
-pub disk_made_as : {S F : Type 0} (view : S → StorageView) (backing : F → BackingView) (old new : Qcow2 S F) (n : ℕ) (from now : SeenDisk) (layout : Layout) (h : HeaderFields) → SameFormat h old.file.header.fields → cluster_size h ≡ layout.cluster → count_width (header (contents_in view new.file)) ≡ layout.width → IsOpened (abstract_of view backing old []) → is_some old.backing ≡ false → (from.is_honest → n ≡ from.disk.size)
+pub disk_made_as : {S F : Type 0} (view : S → StorageView) (backing : F → BackingView) (old new : Qcow2 S F) (n : ℕ) (from now : SeenDisk) (layout : Layout) (h : HeaderFields) → SameFormat h old.file.header.fields → cluster_size h ≡ layout.cluster → count_width (header (contents_in view new.file)) ≡ layout.width → IsOpened (abstract_of view backing old (in_image [])) → is_some old.backing ≡ false → (from.is_honest → n ≡ from.disk.size)
     → (from.is_honest → IsSeenAs from.disk now) → FillsDisk view backing old new n now → IsDiskMade from layout n (view (storage_of_image new))
 disk_made_as view backing old new n from now layout h format cluster width opened alone count seen fills = disk_made view backing old new n from layout h format cluster width opened alone count (record {
   bytes = fills.bytes;

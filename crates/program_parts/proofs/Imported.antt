@@ -1,4 +1,5 @@
 -- An image that was made from a raw disk.
+use Rattle.qcow2_image.specs.ImageInvariant.{in_image}
 use Rattle.std.proofs.Common.{◌≡◌, ℕ, List, [], refl, sym, ap, ◌∙◌, subst, Option, None, Some, false, Result, Ok, Err, IfOk}
 use Rattle.program_parts.proofs.Common.{IsTrue, is_some, BackingView, StorageView, byte_at, IsConsistent, header, cluster_size, count_width, HeaderFields, Setting, IsOpened, disk, contents_in, known_in, Qcow2, HasNothingToFree, IsSameImage, is_writable, storage_of_image, abstract_of, backing_bytes, whole, IsRawOf, Imports, IsImageMade, IsImageOf, IsImageOfSize, zeros_below}
 use Rattle.qcow2_disk.proofs.Compose.{rests_none, stops_none}
@@ -44,18 +45,18 @@ module _ {S F : Type 0} (view : S → StorageView) (backing : F → BackingView)
 
   -- nothing leaks where nothing had a surplus, and nothing is left to be freed
   leaks_none : KeepsSurplus view backing old new → IsTrue (is_writable old) → known_in view new.file ≡ contents_in view new.file → HasNothingToFree new
-      → ((k : ℕ) → (abstract_of view backing old []).surplus k ≡ 0) → HasNoLeaks (contents_in view new.file)
+      → ((k : ℕ) → (abstract_of view backing old (in_image [])).surplus k ≡ 0) → HasNoLeaks (contents_in view new.file)
   leaks_none kept writable clean empty none = no_leaks_flushed view backing old new new kept writable none (Ok tt) (flushed_still clean) (λ _. empty)
 
-  pub has_image : (bytes : List ℕ) (n width : ℕ) (h : HeaderFields) → count_width (header (contents_in view new.file)) ≡ width → IsOpened (abstract_of view backing old []) → is_some old.backing ≡ false → SameFormat h old.file.header.fields
-      → IsTrue (is_writable old) → ((k : ℕ) → (abstract_of view backing old []).surplus k ≡ 0) → IsSameImage old new → HasNothingToFree new → Imports view backing old new bytes (Ok n) → IsImageOf (view (storage_of_image new)) bytes (cluster_size h) width
+  pub has_image : (bytes : List ℕ) (n width : ℕ) (h : HeaderFields) → count_width (header (contents_in view new.file)) ≡ width → IsOpened (abstract_of view backing old (in_image [])) → is_some old.backing ≡ false → SameFormat h old.file.header.fields
+      → IsTrue (is_writable old) → ((k : ℕ) → (abstract_of view backing old (in_image [])).surplus k ≡ 0) → IsSameImage old new → HasNothingToFree new → Imports view backing old new bytes (Ok n) → IsImageOf (view (storage_of_image new)) bytes (cluster_size h) width
   has_image bytes n width h counts opened alone format writable none same empty imports =
-      let w = abstract_of view backing new [] in
-      let does = imports [] in
+      let w = abstract_of view backing new (in_image []) in
+      let does = imports (in_image []) in
       let done = does.answer opened.sound in
       let clean = done.1.3 in
-      let is_whole = whole view backing new [] done.0 in
-      let setting : w.setting ≡ (abstract_of view backing old []).setting = (does.acts.works opened.sound).setting in
+      let is_whole = whole view backing new (in_image []) done.0 in
+      let setting : w.setting ≡ (abstract_of view backing old (in_image [])).setting = (does.acts.works opened.sound).setting in
       let below : w.setting.backing ≡ zeros_below = ap (λ (x : Setting). x.backing) setting ∙ none_below view backing old.backing alone in
       let clusters : cluster_size (header w.known) ≡ cluster_size h =
       sym is_whole.cluster_size ∙ ap (λ (x : Setting). x.cluster_size) setting ∙ same_clusters h old.file.header.fields format

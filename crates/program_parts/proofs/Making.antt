@@ -1,4 +1,5 @@
 -- What a stop may leave while an image is made from a raw disk.
+use Rattle.qcow2_image.specs.ImageInvariant.{in_image}
 use Rattle.std.proofs.Common.{◌≡◌, ◌^◌, ◌∷◌, inl, inr, ⊎_elim, ℕ, List, [], refl, sym, ap, ◌∙◌, subst, Result, Ok, Err}
 use Rattle.program_parts.proofs.Common.{BackingView, StorageView, EachMomentSince, passes_if, passes_on, Bytes, byte_at, IsConsistent, header, count_width, AbstractImage, IsOpened, stored_bytes, CallEffect, disk, disk_with, GivenBytes, StopOkEverywhere, checkpoint_at, checkpoint_with, LeavesKept, KeepsHeaderRest, header_rest_same, ImageError, Qcow2, storage_of_image, abstract_of, Imports, ImportsAny, IsNewDisk, IsStopOfCreating, new_disk_consistent, IsImageOfSize, IsStopOfMaking}
 use Rattle.image_access.specs.declared.storage.PreallocateMode.{PreallocateMode}
@@ -76,24 +77,24 @@ module _ (n : ℕ) (v w : AbstractImage) (given : List GivenBytes) (opened : IsO
 
 module _ {S F : Type 0} (view : S → StorageView) (backing : F → BackingView) (old new : Qcow2 S F) where
   -- refused or not, it gives these bytes
-  imports_acts : (bytes : List ℕ) (result : Result ℕ ImageError) → Imports view backing old new bytes result → CallEffect (abstract_of view backing old []) (abstract_of view backing new []) (given_of 0 bytes ∷ []) []
-  imports_acts bytes (Ok n) imports = (imports []).acts
-  imports_acts bytes (Err e) imports = (imports []).acts
+  imports_acts : (bytes : List ℕ) (result : Result ℕ ImageError) → Imports view backing old new bytes result → CallEffect (abstract_of view backing old (in_image [])) (abstract_of view backing new (in_image [])) (given_of 0 bytes ∷ []) []
+  imports_acts bytes (Ok n) imports = (imports (in_image [])).acts
+  imports_acts bytes (Err e) imports = (imports (in_image [])).acts
 
-  pub while_imported : (n : ℕ) (result : Result ℕ ImageError) → ImportsAny view backing old new result → IsOpened (abstract_of view backing old [])
+  pub while_imported : (n : ℕ) (result : Result ℕ ImageError) → ImportsAny view backing old new result → IsOpened (abstract_of view backing old (in_image []))
       → IsImageOfSize n (byte_at (view (storage_of_image old)).contents) → EachMomentSince (view (storage_of_image old)) (view (storage_of_image new)) (λ c. IsImageOfSize n (byte_at c))
   while_imported n result any opened image =
-      while_filled n (abstract_of view backing old []) (abstract_of view backing new []) (given_of 0 any.0 ∷ []) opened (imports_acts any.0 result any.2) image
+      while_filled n (abstract_of view backing old (in_image [])) (abstract_of view backing new (in_image [])) (given_of 0 any.0 ∷ []) opened (imports_acts any.0 result any.2) image
 
-  pub once_imported : (n : ℕ) (result : Result ℕ ImageError) → ImportsAny view backing old new result → IsOpened (abstract_of view backing old [])
+  pub once_imported : (n : ℕ) (result : Result ℕ ImageError) → ImportsAny view backing old new result → IsOpened (abstract_of view backing old (in_image []))
       → IsImageOfSize n (byte_at (view (storage_of_image old)).contents) → IsImageOfSize n (byte_at (view (storage_of_image new)).contents)
   once_imported n result any opened image =
-      once_filled n (abstract_of view backing old []) (abstract_of view backing new []) (given_of 0 any.0 ∷ []) opened (imports_acts any.0 result any.2) image
+      once_filled n (abstract_of view backing old (in_image [])) (abstract_of view backing new (in_image [])) (given_of 0 any.0 ∷ []) opened (imports_acts any.0 result any.2) image
 
-  pub counts_imported : (n : ℕ) (bytes : List ℕ) (result : Result ℕ ImageError) → Imports view backing old new bytes result → IsOpened (abstract_of view backing old [])
+  pub counts_imported : (n : ℕ) (bytes : List ℕ) (result : Result ℕ ImageError) → Imports view backing old new bytes result → IsOpened (abstract_of view backing old (in_image []))
       → IsImageOfSize n (byte_at (view (storage_of_image old)).contents) → count_width (header (byte_at (view (storage_of_image new)).contents)) ≡ count_width (header (byte_at (view (storage_of_image old)).contents))
   counts_imported n bytes result imports opened image =
-      counts_filled n (abstract_of view backing old []) (abstract_of view backing new []) (given_of 0 bytes ∷ []) opened (imports_acts bytes result imports) image
+      counts_filled n (abstract_of view backing old (in_image [])) (abstract_of view backing new (in_image [])) (given_of 0 bytes ∷ []) opened (imports_acts bytes result imports) image
 
 -- ---- one after the other
 module _ (n : ℕ) (start created opened : StorageView) (making : EachMomentSince start created (λ c. IsStopOfMaking n (byte_at c))) where

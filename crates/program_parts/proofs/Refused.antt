@@ -1,4 +1,5 @@
 -- Why an image is not made from a raw disk, and why a raw disk is not made from an image.
+use Rattle.qcow2_image.specs.ImageInvariant.{in_image}
 use Rattle.std.proofs.Common.{◌≡◌, ◌≢◌, ◌⊎◌, ◌+◌, ◌≤◌, ◌^◌, inl, inr, ⊎_elim, ℕ, List, [], None, Result, Ok, Err, refl, sym, ap, ◌∙◌, subst, true, false, arith, Option, length, option_map}
 use Rattle.program_parts.proofs.Common.{IfErr, IsTrue, unwrap_or, option_or, BackingView, StorageView, Bytes, byte_at, IsConsistent, header, HeaderFields, IsOpened, IsFault, known_in, state_in, ImageError, IsAllowed, IsCreated, IsReasonNotToCreateOpen, allocates_over, backing_format_in, backing_name_in, IsSameImage, is_writable, size_of, storage_of_image, abstract_of, pending_in, NoBacking, Qcow2CreateBuilder, Qcow2, opening_reasons, MayFailImporting, IsImageOfSize, IsLayout, MayFailExporting, MayFailOnceCreated, MayFailReadingDisk, IsRefusedUntouched, IsUnopened, OpensToExport, asked_for}
 use Rattle.std.specs.String.{string_bytes}
@@ -111,10 +112,10 @@ opening_refused {S} view builder storage refused unnamed made rightly =
     no_truth : false ≡ true → ⊥
     no_truth bad = cc
 
-module _ {S F : Type 0} (view : S → StorageView) (backing : F → BackingView) (image : Qcow2 S F) (opened : IsOpened (abstract_of view backing image [])) where
+module _ {S F : Type 0} (view : S → StorageView) (backing : F → BackingView) (image : Qcow2 S F) (opened : IsOpened (abstract_of view backing image (in_image []))) where
   -- an image that was opened may be read
   pub may_be_read : refuses_to_read image 0 0 ≡ None
-  may_be_read = ap (λ r. option_or r (refuse_if (passes (size_of image) 0 0) I.BeyondSize)) (sound_is_usable view backing image [] opened.sound)
+  may_be_read = ap (λ r. option_or r (refuse_if (passes (size_of image) 0 0) I.BeyondSize)) (sound_is_usable view backing image (in_image []) opened.sound)
 
   module _ (contents : List ℕ) (same : (view (storage_of_image image)).contents ≡ contents) where
     known_is : known_in view image.file ≡ byte_at contents
@@ -122,15 +123,15 @@ module _ {S F : Type 0} (view : S → StorageView) (backing : F → BackingView)
 
     -- and has the header of its storage
     pub header_is : image.file.header.fields ≡ header (byte_at contents)
-    header_is = sym (known_header (state_in view image.file (pending_in view backing image [])) opened.sound.file.caches.kept.kept.crash_invariant) ∙ ap header known_is
+    header_is = sym (known_header (state_in view image.file (pending_in view backing image (in_image []))) opened.sound.file.caches.kept.kept.crash_invariant) ∙ ap header known_is
 
-    met_disk : (e : ImageError) → MayFailReadingRange [] 0 (size_of image) image.file.header.fields (known_in view image.file) e → MayFailReadingDisk (byte_at contents) e
+    met_disk : (e : ImageError) → MayFailReadingRange (in_image []) 0 (size_of image) image.file.header.fields (known_in view image.file) e → MayFailReadingDisk (byte_at contents) e
     met_disk e may_fail =
-        let headed = subst (λ (h : HeaderFields). MayFailReadingRange [] 0 h.size h (known_in view image.file) e) header_is may_fail in
+        let headed = subst (λ (h : HeaderFields). MayFailReadingRange (in_image []) 0 h.size h (known_in view image.file) e) header_is may_fail in
         let h = header (byte_at contents) in
-        ⊎_elim (λ looking. ⊎_elim (λ fault. inl fault) (λ held. absurd (none_prepared held.1)) looking) (λ some. inr some) (subst (λ (b : Bytes). MayFailReadingRange [] 0 h.size h b e) known_is headed)
+        ⊎_elim (λ looking. ⊎_elim (λ fault. inl fault) (λ held. absurd (none_prepared held.1)) looking) (λ some. inr some) (subst (λ (b : Bytes). MayFailReadingRange (in_image []) 0 h.size h b e) known_is headed)
 
-    pub met_disks : {A : Type 0} (r : Result A ImageError) → IfErr r (MayFailReadingRange [] 0 (size_of image) image.file.header.fields (known_in view image.file)) → IfErr r (MayFailReadingDisk (byte_at contents))
+    pub met_disks : {A : Type 0} (r : Result A ImageError) → IfErr r (MayFailReadingRange (in_image []) 0 (size_of image) image.file.header.fields (known_in view image.file)) → IfErr r (MayFailReadingDisk (byte_at contents))
     met_disks r may_fail = err_then r met_disk may_fail
 
 -- an import of a raw disk of the image's size
@@ -140,13 +141,13 @@ met_importing {A} {n} {m} P r e is same option may_fail =
 
 -- the image that was created is handed back then
 pub met_once_created : {S A : Type 0} (view : S → StorageView) (n : ℕ) (old new : Qcow2 S NoBacking) (storage : S) (r : Result A ImageError) → storage ≡ storage_of_image new → size_of old ≡ n → IsTrue (is_writable old) → IsSameImage old new
-    → IsImageOfSize n (byte_at (view (storage_of_image new)).contents) → IfErr r (MayFailImporting view 0 (size_of old) new []) → IfErr r (MayFailOnceCreated view n storage)
+    → IsImageOfSize n (byte_at (view (storage_of_image new)).contents) → IfErr r (MayFailImporting view 0 (size_of old) new (in_image [])) → IfErr r (MayFailOnceCreated view n storage)
 met_once_created view n old new storage r is size writable same stands = err_then r (λ e may_fail. record {
   left = new;
   is_left = sym is;
   writable = subst IsTrue (sym same.writable) writable;
   stands = subst (λ s. IsImageOfSize n (byte_at (view s).contents)) (sym is) stands;
-  may_fail = subst (λ k. MayFailImporting view 0 k new [] e) size may_fail;
+  may_fail = subst (λ k. MayFailImporting view 0 k new (in_image []) e) size may_fail;
 })
 
 -- ---- a raw disk of an image

@@ -13,8 +13,9 @@ use Rattle.qcow2_disk.specs.Stops.{IsGiven}
 use Rattle.qcow2_metadata.specs.Header.{rounded_up}
 use Rattle.qcow2_image.proofs.Preallocate.FilledGrowth.{up_least}
 use Rattle.qcow2_image.proofs.Images.Sizes.{disk_size}
-use Rattle.qcow2_image.specs.ImageInvariant.{disk_of}
+use Rattle.qcow2_image.specs.ImageInvariant.{disk_of, in_image}
 use Rattle.program_parts.specs.Resizing.{IsResizedDisk, IsStopOfResizing}
+use Rattle.qcow2_image.specs.declared.mapping.Place.TheVariants.{Image}
 
 -- ---- stops
 
@@ -65,11 +66,11 @@ size_in : (b below : Bytes) → (disk b below).size ≡ (header b).size
 unfolding disk_with
 size_in b below = refl
 
-module _ {S F : Type 0} (view : S → StorageView) (backing : F → BackingView) (old mid : Qcow2 S F) (gs : List GivenBytes) (size : ℕ) (opened : IsOpened (abstract_of view backing old [])) (beyond : AreBeyond (disk_of view backing old) size gs)
-    (first : CallEffect (abstract_of view backing old []) (abstract_of view backing mid []) gs (size ∷ [])) where
-  to_stop : (c : Bytes) → IsStop (backing_bytes view backing old.backing) (disk_of view backing old) size c → IsStopOfResizing view backing size old c
+module _ {S F : Type 0} (view : S → StorageView) (backing : F → BackingView) (old mid : Qcow2 S F) (gs : List GivenBytes) (size : ℕ) (opened : IsOpened (abstract_of view backing old (in_image []))) (beyond : AreBeyond (disk_of view backing Image old) size gs)
+    (first : CallEffect (abstract_of view backing old (in_image [])) (abstract_of view backing mid (in_image [])) gs (size ∷ [])) where
+  to_stop : (c : Bytes) → IsStop (backing_bytes view backing old.backing) (disk_of view backing Image old) size c → IsStopOfResizing view backing size old c
   to_stop c stop =
-      let is : size_of old ≡ (disk_of view backing old).size = disk_size view backing old [] opened.sound in
+      let is : size_of old ≡ (disk_of view backing Image old).size = disk_size view backing old (in_image []) opened.sound in
       record {
         consistent = stop.consistent;
         size_is = ⊎_elim (λ same. inl (sym (size_in c (backing_bytes view backing old.backing)) ∙ same ∙ sym is)) (λ new. inr (sym (size_in c (backing_bytes view backing old.backing)) ∙ new)) stop.size_is;
@@ -79,13 +80,13 @@ module _ {S F : Type 0} (view : S → StorageView) (backing : F → BackingView)
   pub moments_first : EachMomentSince (view (storage_of_image old)) (view (storage_of_image mid)) (λ c. IsStopOfResizing view backing size old (byte_at c))
   moments_first =
       passes_if (λ c. IsStopOfResizing view backing size old (byte_at c)) (λ c stop. to_stop (byte_at c) stop)
-      (stops_first (abstract_of view backing old []) (abstract_of view backing mid []) gs size opened (whole view backing old [] opened.sound).consistent beyond first)
+      (stops_first (abstract_of view backing old (in_image [])) (abstract_of view backing mid (in_image [])) gs size opened (whole view backing old (in_image []) opened.sound).consistent beyond first)
 
-  pub moments_then : (new : Qcow2 S F) → (abstract_of view backing mid []).is_sound → CallEffect (abstract_of view backing mid []) (abstract_of view backing new []) [] []
+  pub moments_then : (new : Qcow2 S F) → (abstract_of view backing mid (in_image [])).is_sound → CallEffect (abstract_of view backing mid (in_image [])) (abstract_of view backing new (in_image [])) [] []
       → EachMomentSince (view (storage_of_image old)) (view (storage_of_image new)) (λ c. IsStopOfResizing view backing size old (byte_at c))
   moments_then new sound second =
       passes_if (λ c. IsStopOfResizing view backing size old (byte_at c)) (λ c stop. to_stop (byte_at c) stop)
-      (stops_then (abstract_of view backing old []) (abstract_of view backing mid []) gs size opened (whole view backing old [] opened.sound).consistent beyond first (abstract_of view backing new []) sound second)
+      (stops_then (abstract_of view backing old (in_image [])) (abstract_of view backing mid (in_image [])) gs size opened (whole view backing old (in_image []) opened.sound).consistent beyond first (abstract_of view backing new (in_image [])) sound second)
 
 -- ---- what is given
 

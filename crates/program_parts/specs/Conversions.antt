@@ -22,6 +22,7 @@ use Rattle.qcow2_alloc.specs.declared.error.ImageError.{ImageError}
 use Rattle.qcow2_alloc.specs.declared.error.ImageError.TheVariants.{Compressed, Storage}
 use Rattle.qcow2_session.specs.Conversions.{MayFailImporting, IsRawOf}
 use Rattle.qcow2_session.specs.Sessions.{IsOfReading}
+use Rattle.qcow2_image.specs.ImageInvariant.{in_image}
 
 -- Without a backing disk, unmapped clusters show zeros.
 abbrev pub zeros_below : Bytes
@@ -104,7 +105,7 @@ pub record MayFailOnceCreated {S : Type 0} (view : S → StorageView) (n : ℕ) 
   pub is_left : storage_of_image left ≡ storage
   pub writable : IsTrue (is_writable left)
   pub stands : IsImageOfSize n (byte_at (view storage).contents)
-  pub may_fail : MayFailImporting view 0 n left [] e
+  pub may_fail : MayFailImporting view 0 n left (in_image []) e
 
 -- Why the image is not made, if the raw disk keeps its size: it is not created and opened, or copying into it is refused.
 abbrev pub IsReasonNotToMake : {S : Type 0} → (S → StorageView) → Qcow2CreateBuilder S → S → ImageError → Type 0

@@ -12,6 +12,7 @@ use Rattle.program_parts.specs.Conversions.{IsImageOfSize, disk_alone}
 use Rattle.program_parts.specs.Disks.{AreSameDisks, SeenDisk}
 use Rattle.program_parts.specs.Places.{EachHeldSince, NameView}
 use Rattle.program_parts.specs.declared.disk_images.Layout.{Layout}
+use Rattle.qcow2_image.specs.declared.mapping.Place.TheVariants.{Image}
 
 -- A consistent image of size n with this layout, whatever was read. If reads of the disk return its bytes, the image has them.
 pub record IsWholeOfDisk (seen : SeenDisk) (layout : Layout) (n : ℕ) (bytes : List ℕ) : Type 0 where
@@ -40,7 +41,7 @@ pub record ReplacesByDisk {E : Type 0} (seen : SeenDisk) (layout : Layout) (old 
 module _ {S F : Type 0} (view : S → StorageView) (backing : F → BackingView) where
   -- The disk of the image is zeros, up to an offset.
   abbrev pub ShowsNothing : ℕ → Qcow2 S F → Type 0
-  ShowsNothing n image = Shows (disk_of view backing image) 0 (replicate n 0)
+  ShowsNothing n image = Shows (disk_of view backing Image image) 0 (replicate n 0)
 
   module _ (old new : Qcow2 S F) where
     -- The image was given the bytes of a range of the disk; zeros were not written.

@@ -10,7 +10,7 @@ use Rattle.qcow2_disk.specs.AbstractImages.{guest_of}
 use Rattle.qcow2_disk.specs.Disk.{Disk}
 use Rattle.qcow2_alloc.specs.Quiet.{IsQuiet}
 use Rattle.qcow2_image.specs.Image.{storage_of_image}
-use Rattle.qcow2_image.specs.ImageInvariant.{abstract_of}
+use Rattle.qcow2_image.specs.ImageInvariant.{abstract_of, in_image}
 use Rattle.qcow2_image.specs.Unwritten.{HoldsNothingModified}
 use Rattle.qcow2_image.specs.declared.image.Qcow2.{Qcow2}
 use Rattle.program_parts.specs.Conversions.{disk_alone}
@@ -49,7 +49,7 @@ seen_raw storage = record { disk = raw_disk storage.contents; is_honest = storag
 
 -- The disk of an open image. Reads return its bytes if the image is sound.
 abbrev pub seen_image : {S F : Type 0} → (S → StorageView) → (F → BackingView) → Qcow2 S F → SeenDisk
-seen_image view backing image = let v = abstract_of view backing image [] in record { disk = (guest_of v).disk; is_honest = v.is_sound; storage = view (storage_of_image image); is_written = HoldsNothingModified image }
+seen_image view backing image = let v = abstract_of view backing image (in_image []) in record { disk = (guest_of v).disk; is_honest = v.is_sound; storage = view (storage_of_image image); is_written = HoldsNothingModified image }
 
 abbrev pub seen_open : {S : Type 0} → (S → StorageView) → OpenDisk S → SeenDisk
 seen_open view (D.Raw raw) = seen_raw (view raw.storage)

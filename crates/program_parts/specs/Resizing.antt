@@ -11,9 +11,10 @@ use Rattle.qcow2_disk.specs.Calls.{shows_old}
 use Rattle.qcow2_disk.specs.Disk.{Disk, disk}
 use Rattle.qcow2_metadata.specs.Header.{header}
 use Rattle.qcow2_image.specs.Image.{size_of}
-use Rattle.qcow2_image.specs.ImageInvariant.{abstract_of, backing_bytes, disk_of}
+use Rattle.qcow2_image.specs.ImageInvariant.{abstract_of, backing_bytes, disk_of, Mappings}
 use Rattle.qcow2_image.specs.declared.image.Qcow2.{Qcow2}
 use Rattle.qcow2_image.specs.declared.prepared.Prepared.{Prepared}
+use Rattle.qcow2_image.specs.declared.mapping.Place.TheVariants.{Image}
 
 -- The new disk has this size, and the old bytes below both sizes. Behind the old end it is zeros, unless the mode leaves what is there.
 pub record IsResizedDisk (old : Disk) (size : ℕ) (mode : PreallocateMode) (new : Disk) : Type 0 where
@@ -27,9 +28,9 @@ module _ {S F : Type 0} (view : S → StorageView) (backing : F → BackingView)
   pub record IsStopOfResizing (size : ℕ) (old : Qcow2 S F) (image : Bytes) : Type 0 where
     pub consistent : IsConsistent image
     pub size_is : ((header image).size ≡ size_of old) ⊎ ((header image).size ≡ size)
-    pub kept : (o : ℕ) → o < size_of old → o < size → (disk image (backing_bytes view backing old.backing)).value o ≡ (disk_of view backing old).value o
+    pub kept : (o : ℕ) → o < size_of old → o < size → (disk image (backing_bytes view backing old.backing)).value o ≡ (disk_of view backing Image old).value o
 
   -- A sound image is still sound, its disk is resized, and everything is on the storage.
   abbrev pub Resizes : ℕ → PreallocateMode → Qcow2 S F → Qcow2 S F → Type 0
-  Resizes size mode old new = (out : List (Option Prepared)) → let v = abstract_of view backing old out in let w = abstract_of view backing new out in
+  Resizes size mode old new = (out : Mappings) → let v = abstract_of view backing old out in let w = abstract_of view backing new out in
       v.is_sound → w.is_sound × IsResizedDisk (guest_of v).disk size mode (guest_of w).disk × (w.known ≡ stored_bytes w)

@@ -3,7 +3,7 @@ ghost use Rattle.qcow2_session.specs.CountedFaults.{ConversionCounts};
 ghost use Rattle.std.specs.Prelude.{◌≡◌, ◌⊎◌, ◌-◌, ◌<◌, ◌^◌, ℕ, [], length, min, Err, IfErr, IfOk, IsErrAnd, IsTrue, Ok};
 ghost use Rattle.image_access.specs.Moments.{ContentsStay, EachMomentSince};
 ghost use Rattle.qcow2_disk.specs.AbstractImages.{IsOpened};
-ghost use Rattle.qcow2_image.specs.ImageInvariant.{abstract_of};
+ghost use Rattle.qcow2_image.specs.ImageInvariant.{abstract_of, in_image};
 ghost use Rattle.qcow2_metadata.specs.Bytes.{byte_at};
 ghost use Rattle.qcow2_metadata.specs.Consistent.{IsConsistent};
 ghost use Rattle.qcow2_metadata.specs.Header.{header};
@@ -80,22 +80,22 @@ fn fill<R: Storage, S: Storage, F: WrappedFormat<S>>(
     image: &mut Qcow2<S, F>,
 ) -> Result<u64, ImageError>
     ensures sees { (R.view raw.old).is_honest → IfOk result (λ n. Imports S.view F.backing image.old image.new (R.view raw.old).contents (Ok n)) }
-    ensures count { let opened = IsOpened (abstract_of S.view F.backing image.old []) in
+    ensures count { let opened = IsOpened (abstract_of S.view F.backing image.old (in_image [])) in
         IfOk result (CountsBytes (R.view raw.old) opened (size_of image.old)) }
     ensures image { IsSameImage image.old image.new }
     ensures emptied { IsTrue (is_writable image.old) → IfOk result (λ n. HasNothingToFree image.new) }
     ensures raw { IsLeft (R.view raw.old) (R.view raw.new) }
     ensures cause { IfErr result IsOfImporting }
-    ensures stops { (n : ℕ) → IsOpened (abstract_of S.view F.backing image.old [])
+    ensures stops { (n : ℕ) → IsOpened (abstract_of S.view F.backing image.old (in_image []))
         → IsImageOfSize n (byte_at (S.view (storage_of_image image.old)).contents)
         → EachMomentSince (S.view (storage_of_image image.old)) (S.view (storage_of_image image.new))
         (λ c. IsImageOfSize n (byte_at c)) }
-    ensures stands { (n : ℕ) → IsOpened (abstract_of S.view F.backing image.old [])
+    ensures stands { (n : ℕ) → IsOpened (abstract_of S.view F.backing image.old (in_image []))
         → IsImageOfSize n (byte_at (S.view (storage_of_image image.old)).contents)
         → IsImageOfSize n (byte_at (S.view (storage_of_image image.new)).contents) }
     ensures may_fail { (R.view raw.old).is_honest → length (R.view raw.old).contents ≡ size_of image.old
-        → IsOpened (abstract_of S.view F.backing image.old [])
-        → IfErr result (MayFailImporting S.view 0 (size_of image.old) image.new []) }
+        → IsOpened (abstract_of S.view F.backing image.old (in_image []))
+        → IfErr result (MayFailImporting S.view 0 (size_of image.old) image.new (in_image [])) }
     ensures faults { ConversionCounts S.view F.backing image.old image.new (R.view raw.old).faults (R.view raw.new).faults result }
 {
     let count = to_qcow2(alloc, raw, image)?;

@@ -5,7 +5,7 @@ ghost use Rattle.image_access.specs.declared.storage.PreallocateMode.{Preallocat
 ghost use Rattle.qcow2_metadata.specs.Bytes.{byte_at};
 ghost use Rattle.qcow2_disk.specs.AbstractImages.{IsOpened};
 ghost use Rattle.qcow2_image.specs.Image.{size_of, storage_of_image};
-ghost use Rattle.qcow2_image.specs.ImageInvariant.{abstract_of};
+ghost use Rattle.qcow2_image.specs.ImageInvariant.{abstract_of, in_image};
 ghost use Rattle.program_parts.specs.Resizing.{IsStopOfResizing, Resizes};
 ghost use Rattle.program_parts.specs.declared.resizing.NotResized.TheVariants.{WouldShrink};
 
@@ -39,7 +39,7 @@ pub fn resize_disk<S: Storage, F: WrappedFormat<S>>(
     ensures kept { IsFalse may_shrink → size < size_of image.old
         → (result ≡ Err (WouldShrink (size_of image.old - size))) × (image.new ≡ image.old) }
     ensures done { OnOk result (Resizes S.view F.backing size mode image.old image.new) }
-    ensures moments { IsOpened (abstract_of S.view F.backing image.old [])
+    ensures moments { IsOpened (abstract_of S.view F.backing image.old (in_image []))
         → EachMomentSince (S.view (storage_of_image image.old)) (S.view (storage_of_image image.new))
         (λ c. IsStopOfResizing S.view F.backing size image.old (byte_at c)) }
 {
@@ -63,7 +63,7 @@ fn grow_to<S: Storage, F: WrappedFormat<S>>(
 ) -> Result<(), ImageError>
     requires { size_of image.old ≤ size }
     ensures done { OnOk result (Resizes S.view F.backing size mode image.old image.new) }
-    ensures moments { IsOpened (abstract_of S.view F.backing image.old [])
+    ensures moments { IsOpened (abstract_of S.view F.backing image.old (in_image []))
         → EachMomentSince (S.view (storage_of_image image.old)) (S.view (storage_of_image image.new))
         (λ c. IsStopOfResizing S.view F.backing size image.old (byte_at c)) }
 {
@@ -79,7 +79,7 @@ fn shrink_to<S: Storage, F: WrappedFormat<S>>(
 ) -> Result<(), ImageError>
     requires { size < size_of image.old }
     ensures done { (mode : PreallocateMode) → OnOk result (Resizes S.view F.backing size mode image.old image.new) }
-    ensures moments { IsOpened (abstract_of S.view F.backing image.old [])
+    ensures moments { IsOpened (abstract_of S.view F.backing image.old (in_image []))
         → EachMomentSince (S.view (storage_of_image image.old)) (S.view (storage_of_image image.new))
         (λ c. IsStopOfResizing S.view F.backing size image.old (byte_at c)) }
 {

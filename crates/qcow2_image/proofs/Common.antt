@@ -90,7 +90,7 @@ pub use Rattle.qcow2_disk.specs.UngivenCovers.{UngivenStay, IsUngiven}
 pub use Rattle.qcow2_image.specs.Backings.{HasPinnedMapping}
 pub use Rattle.qcow2_image.specs.BehindHeader.{IsBesideNumbers, IsL1TableBehind, KeepsTablesBehind, NamesTablesBehind, PreservesHeaderCluster, TablesBehindHeader, KeepsL1TableBehind, LiesBehindHeader}
 pub use Rattle.qcow2_image.specs.CallParts.{RefusedCall, InternalCall, FindsTable, IsReadied, PreparesRange, EndsFreeing, CommitsAll, EntersAll, ShowsPart, CommitsPart, IsEntered, IsWriteOutcome, PutsPart, WritesBytes, IsExisting, put_guest, Readies, InterruptedCall, AreCopied, StaysBeside, IsPut}
-pub use Rattle.qcow2_image.specs.Calls.{refusal_of, AnswersCall, Discards, FlushesImage, Prepares, Puts, all_given_by_put, Commits}
+pub use Rattle.qcow2_image.specs.Calls.{AnswersGiving, refusal_of, AnswersCall, Discards, FlushesImage, Prepares, Puts, all_given_by_put, Commits}
 pub use Rattle.qcow2_image.specs.Clearing.{ClearsImageCovers, ClearsPart, ClearsTable, IsUnderMapping, IsClearable, MayClear, ReadsAll, ReadsDropped, cover_once_cleared, given_bytes_between, is_between, listed_by, setting_of, shown_by, AreCleared, Clears, RefusesUngiven, from_in, needs_zero_entries, refuses_to_clear, rounds_past, to_in, ClearsEntry, is_cleared, ClearsOrRefuses, RefusesClearing, all_given_by_clear, with_caches, cleared_entry}
 pub use Rattle.qcow2_image.specs.ClearingCalls.{ClearsSoundly, ClearsStep, FailsToClear, ClearsInTable}
 pub use Rattle.qcow2_image.specs.CopyRange.{HasByte, announced_range_of, copy_range_of, uncut_copy_range}
@@ -101,7 +101,7 @@ pub use Rattle.qcow2_image.specs.Found.{l1_index_of, l2_index_of, kind_in, mappi
 pub use Rattle.qcow2_image.specs.Growing.{FitsSize, Extends, Lasts, ReachesSize, SameFormat, WritesBack, LastsCall, LastsKnown, LastsPart, KeepsSurplus, LeavesSound}
 pub use Rattle.qcow2_image.specs.HeldMappings.{IsCompressedInTables, IsHeldFrom, RefusesHeld, StaysHeld, FitsTables, IsHeldAs, IsLongestSo, named_place, IsMappedBy, IsMappedSo, KeepsHeld, IsHeldRun, ReadsAs}
 pub use Rattle.qcow2_image.specs.Image.{HasPinnedTable, is_beside, is_failed, is_placed_by_guest, place_in, lacks_data_file, is_writable, size_of, IsBegun, number_of, ImageStays, has_noted_change, IsSameImage, with_marks, leaked_in, storage_of_image, HasNothingToFree, leaked_by, KeepsRestOn}
-pub use Rattle.qcow2_image.specs.ImageInvariant.{below_of, of_data, of_tables, to_free, new_data_by, over_all, pending_in, abstract_of, meaning, is_entered, is_new, is_private, is_hidden, place_of, mapping_of_cluster, backing_bytes, ImageInvariant, faults_below, IsPending, IsReadyWith, disk_of, listed_run, pins_by, cluster_of, new_data_in, host_begin_of, IsNewAt, IsClusterMappingAt, IsReady, IsHonestBacking, pins_of, image_abstraction, HasL1Table, run_of, surplus_in, begin_of, IsKeptAt}
+pub use Rattle.qcow2_image.specs.ImageInvariant.{below_of, of_data, of_tables, to_free, new_data_by, over_all, pending_in, abstract_of, meaning, is_entered, is_new, is_private, is_hidden, place_of, mapping_of_cluster, backing_bytes, ImageInvariant, faults_below, IsPending, IsReadyWith, disk_of, listed_run, pins_by, cluster_of, new_data_in, host_begin_of, IsNewAt, IsClusterMappingAt, IsReady, IsHonestBacking, pins_of, image_abstraction, HasL1Table, run_of, surplus_in, begin_of, IsKeptAt, IsGuestAt, Mappings, in_image, set_slot, over_slots, bytes_for, bytes_beside, known_for, contents_for, IsAt, IsInside, abstraction_at}
 pub use Rattle.qcow2_image.specs.ImageSteps.{ImageFails, ImageStep, ImageStepWhere, ReadingStep, CallStep, ReadingCall}
 pub use Rattle.qcow2_image.specs.InternalSteps.{pending_with_listed, ListGrows, InternalStep, InternalFreeingStep, NamesOwn, KeepsCopied, Ensures, InternalFillingStep, RefusedFillingStep, RefusedStep, FreesLater, Pins, HoldsTable, old_data_by, freed_by, FreesListed, HoldsAll, is_announced, IsFilled, AllocatesData, SameHeld, IsKeptAlone, IsGained, InterruptedStep, DropsNothing, EntersMapping, AreThere, IsInHeldCluster, InterruptedPart, EntersCluster, Gains}
 pub use Rattle.qcow2_image.specs.Invalidated.{RespectsPrepared, HoldsNoTable, IsAtRest, IsReasonAgainstPlaces, IsReasonAgainstReading, IsOfPrepared, IsStillInUse, MayFailToInvalidate, KeepsTables, ReadsPlaces, ReplacesTables, reftable_in, ReadsTables, ArePlacesFor, DropsCached, IsAsStored, IsReasonNotToRead, ReadsAnew, HoldsPinnedAlone, WritesNothing}

@@ -4,6 +4,7 @@ pub mod Ready
 pub mod Inside
 pub mod Apart
 pub mod Moving
+pub mod Places
 pub mod Moved
 pub mod UngivenCovers
 pub mod WholeClusters

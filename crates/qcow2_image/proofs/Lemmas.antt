@@ -10,7 +10,7 @@ pub use Rattle.qcow2_image.proofs.Call.Marked.{marks_since, MayMarkBy, MayMark, 
 pub use Rattle.qcow2_image.proofs.Call.Notes.{table_kept, same_kept, pins_kept}
 pub use Rattle.qcow2_image.proofs.Call.OnceWritten.{fails_once, fails_none, part_none, changes_before, changes_later, answered_counts, counts_begun, fails_marked, kept_noted, notes_begun, notes_part, notes_since, once_marked, commit_fails_none, counts_on, counts_released, parts_then, call_then, answered_once, failed_part, kept_fewer, refused_once, counts_noted}
 pub use Rattle.qcow2_image.proofs.Call.Refused.{refuses_left, refused_then, stays_kept, image_step_stays, stays_then, back_then_freed, back_refused, prepares_after, readied_after, finds, finds_after, left_refused}
-pub use Rattle.qcow2_image.proofs.Call.Slots.{get_set_same, set_same, set_set, over_all_two, get_set, over_all_put, slot_set, length_set}
+pub use Rattle.qcow2_image.proofs.Call.Slots.{get_set_same, set_same, set_set, set_slot_same, set_slot_set, over_all_two, get_set, over_all_put, slot_set, length_set}
 pub use Rattle.qcow2_image.proofs.Call.Stepped.{Steps, stepped_sound, stepped_works}
 pub use Rattle.qcow2_image.proofs.Call.Unlimited.{short_fault, looking_unlimited, fault_unlimited, in_use_unlimited, short_unlimited, storage_unlimited}
 pub use Rattle.qcow2_image.proofs.Call.WriteSteps.{filling_none, keeping_of_filling, keeping_of_read, taking_none, filling_written, taking_of_filling, filling_of_read, filling_then, taking_listed, taking_then, filling_pinned, taking_where, taking_with, where_then, where_with, keeping_then}
@@ -32,7 +32,7 @@ pub use Rattle.qcow2_image.proofs.Images.Apart.{pins_own, apart_guests}
 pub use Rattle.qcow2_image.proofs.Images.Backings.{some_prepared, table_prepared, found_pinned, none_prepared}
 pub use Rattle.qcow2_image.proofs.Images.ClusterMappings.{never_private, byte_cluster, byte_place, byte_of_mapping, Standing, in_new, in_kept, over_all_at, private_shared, private_stands, ready_table, mapping_here, mapping_there, place_in, new_data_at, new_data_once, host_cluster, private_used, freed_none}
 pub use Rattle.qcow2_image.proofs.Images.Formats.{entry_at_format, l1_shared, lists_grow}
-pub use Rattle.qcow2_image.proofs.Images.Free.{free_places}
+pub use Rattle.qcow2_image.proofs.Images.Free.{free_places, data_inside}
 pub use Rattle.qcow2_image.proofs.Images.Inside.{names_inside}
 pub use Rattle.qcow2_image.proofs.Images.Moved.{data_moved, file_step_then, format_file_step, stay_then, format_stay}
 pub use Rattle.qcow2_image.proofs.Images.Moving.{file_moved, leaked_still}

@@ -18,7 +18,7 @@ use Rattle.qcow2_image.specs.declared.image.Qcow2.{Qcow2}
 use Rattle.qcow2_image.specs.declared.prepared.Prepared.{Prepared}
 use Rattle.qcow2_image.specs.Calls.{refusal_of, all_given_by_put}
 use Rattle.qcow2_image.specs.Image.{is_failed, has_noted_change, storage_of_image}
-use Rattle.qcow2_image.specs.ImageInvariant.{meaning, pending_in, abstract_of, ImageInvariant}
+use Rattle.qcow2_image.specs.ImageInvariant.{meaning, pending_in, abstract_of, ImageInvariant, Mappings, set_slot}
 use Rattle.qcow2_image.specs.MovedTables.{MovesTables, CoversStay}
 
 -- What a guest sees after bytes were put into the mapping of a slot.
@@ -103,30 +103,30 @@ module _ {S F : Type 0} (view : S → StorageView) where
 
   module _ (backing : F → BackingView) where
     -- Bytes are put into a prepared mapping.
-    pub record PutsPart (old new : Qcow2 S F) (out : List (Option Prepared)) (k : ℕ) (p : Prepared) (at : ℕ) (bytes : List ℕ) (result : Result (Unit {0}) ImageError) : Type 0 where
-      pub works : EffectOnSound (abstract_of view backing old out) (abstract_of view backing new out) (all_given_by_put view backing old new (abstract_of view backing old out) p at bytes) []
+    pub record PutsPart (old new : Qcow2 S F) (out : Mappings) (k : ℕ) (p : Prepared) (at : ℕ) (bytes : List ℕ) (result : Result (Unit {0}) ImageError) : Type 0 where
+      pub works : EffectOnSound (abstract_of view backing old out) (abstract_of view backing new out) (all_given_by_put view backing old new out.place (abstract_of view backing old out) p at bytes) []
       pub sound : ImageInvariant view backing (pending_in view backing new out) new out
-      pub is : IsPut result (guest_of (abstract_of view backing old out)) (put_guest (guest_of (abstract_of view backing old out)) k (meaning view backing old p) at bytes) (guest_of (abstract_of view backing new out))
+      pub is : IsPut result (guest_of (abstract_of view backing old out)) (put_guest (guest_of (abstract_of view backing old out)) k (meaning view backing out.place old p) at bytes) (guest_of (abstract_of view backing new out))
 
     -- A prepared mapping is committed in part. The rest stays prepared in its slot.
-    pub record CommitsPart (old new : Qcow2 S F) (out : List (Option Prepared)) (k : ℕ) (p q : Prepared) : Type 0 where
-      pub works : EffectOnSound (abstract_of view backing old out) (abstract_of view backing new (slice_set out k (Some q))) (given_by_commit (abstract_of view backing old out).setting.cluster_size (guest_of (abstract_of view backing old out)).disk (meaning view backing old p) ∷ []) []
-      pub sound : ImageInvariant view backing (pending_in view backing new (slice_set out k (Some q))) new (slice_set out k (Some q))
-      pub shows : ShowsPart (guest_of (abstract_of view backing old out)) (guest_of (abstract_of view backing new (slice_set out k (Some q)))) k (meaning view backing old p) (meaning view backing new q)
+    pub record CommitsPart (old new : Qcow2 S F) (out : Mappings) (k : ℕ) (p q : Prepared) : Type 0 where
+      pub works : EffectOnSound (abstract_of view backing old out) (abstract_of view backing new (set_slot out k (Some q))) (given_by_commit (abstract_of view backing old out).setting.cluster_size (guest_of (abstract_of view backing old out)).disk (meaning view backing out.place old p) ∷ []) []
+      pub sound : ImageInvariant view backing (pending_in view backing new (set_slot out k (Some q))) new (set_slot out k (Some q))
+      pub shows : ShowsPart (guest_of (abstract_of view backing old out)) (guest_of (abstract_of view backing new (set_slot out k (Some q)))) k (meaning view backing out.place old p) (meaning view backing out.place new q)
       pub beside : StaysBeside p.guest (p.guest + p.length) old new
 
     -- A prepared mapping is committed, and no byte of it is private any more.
-    pub record CommitsAll (old new : Qcow2 S F) (out : List (Option Prepared)) (k : ℕ) (p q : Prepared) : Type 0 where
+    pub record CommitsAll (old new : Qcow2 S F) (out : Mappings) (k : ℕ) (p q : Prepared) : Type 0 where
       pub part : CommitsPart old new out k p q
-      pub visible : (o : ℕ) → (meaning view backing new q).is_private o ≡ false
+      pub visible : (o : ℕ) → (meaning view backing out.place new q).is_private o ≡ false
 
     -- All clusters of a pinned mapping are entered in its L2 table. If one of them was not in place, a change is recorded.
     abbrev pub EntersAll : Qcow2 S F → Qcow2 S F → Prepared → Prepared → Bool → Type 0
-    EntersAll old new p q entered = (out : List (Option Prepared)) (k : ℕ) → slice_get out k ≡ Some (Some p) → IsSome p.table → ImageInvariant view backing (pending_in view backing old out) old out
+    EntersAll old new p q entered = (out : Mappings) (k : ℕ) → slice_get out.slots k ≡ Some (Some p) → IsSome p.table → ImageInvariant view backing (pending_in view backing old out) old out
         → CommitsAll old new out k p q × (IsTrue entered → IsTrue new.file.caches.is_changed)
 
     -- The image is sound, the guest sees what it saw, and every mapping is the same. The L1 table and the reftable may have moved.
-    pub record InternalCall (old new : Qcow2 S F) (out : List (Option Prepared)) : Type 0 where
+    pub record InternalCall (old new : Qcow2 S F) (out : Mappings) : Type 0 where
       pub works : EffectOnSound (abstract_of view backing old out) (abstract_of view backing new out) [] []
       pub sound : ImageInvariant view backing (pending_in view backing new out) new out
       pub same : IsSame (abstract_of view backing old out) (abstract_of view backing new out)
@@ -134,41 +134,41 @@ module _ {S F : Type 0} (view : S → StorageView) where
       pub covers : CoversStay old.file.header.fields (known_in view old.file) new.file.header.fields (known_in view new.file)
 
     -- A part that a fault ended, after a change was recorded if memory ran out. Once the image is marked as failed, a stop is as safe as before.
-    pub record InterruptedCall (old new : Qcow2 S F) (out : List (Option Prepared)) (e : ImageError) : Type 0 where
+    pub record InterruptedCall (old new : Qcow2 S F) (out : Mappings) (e : ImageError) : Type 0 where
       pub fault : IsFaultOfTables e
       pub recorded : e ≡ I.Memory → IsTrue (has_noted_change new)
       pub works : EffectOnSound (abstract_of view backing old out) (abstract_of view backing (record new { is_failed = true }) out) [] []
 
     -- What a refused part leaves: a sound image that looks the same, or one that is about to fail.
-    abbrev pub RefusedCall : Qcow2 S F → Qcow2 S F → List (Option Prepared) → ImageError → Type 0
+    abbrev pub RefusedCall : Qcow2 S F → Qcow2 S F → Mappings → ImageError → Type 0
     RefusedCall old new out e = InternalCall old new out ⊎ InterruptedCall old new out e
 
     -- Clusters are freed at the end of a call, which guests don't see. Only a fault refuses this. If a change was recorded in the caches, the image failed then.
-    abbrev pub EndsFreeing : Qcow2 S F → Qcow2 S F → List (Option Prepared) → Result (Unit {0}) ImageError → Type 0
+    abbrev pub EndsFreeing : Qcow2 S F → Qcow2 S F → Mappings → Result (Unit {0}) ImageError → Type 0
     EndsFreeing old new out (Ok _) = InternalCall old new out
     EndsFreeing old new out (Err e) =
         RefusedEffect (abstract_of view backing old out) (abstract_of view backing new out) [] [] (refusal_of e) (IsSame (abstract_of view backing old out) (abstract_of view backing new out))
         × IsRefusalByFault (refusal_of e) × (IsTrue old.file.caches.is_changed → IsTrue (is_failed new))
 
     -- The L2 table of an offset is found or made.
-    abbrev pub FindsTable : Qcow2 S F → Qcow2 S F → List (Option Prepared) → ℕ → Result ℕ ImageError → Type 0
+    abbrev pub FindsTable : Qcow2 S F → Qcow2 S F → Mappings → ℕ → Result ℕ ImageError → Type 0
     FindsTable old new out offset (Ok table) = InternalCall old new out × HoldsTable view backing new offset table
     FindsTable old new out offset (Err e) = RefusedCall old new out e
 
     -- A range is prepared, and its mapping is in a slot that was empty.
-    pub record IsReadied (old new : Qcow2 S F) (out : List (Option Prepared)) (k offset n : ℕ) (overwrite : Bool) (p : Prepared) : Type 0 where
-      pub works : EffectOnSound (abstract_of view backing old out) (abstract_of view backing new (slice_set out k (Some p))) [] []
-      pub sound : ImageInvariant view backing (pending_in view backing new (slice_set out k (Some p))) new (slice_set out k (Some p))
+    pub record IsReadied (old new : Qcow2 S F) (out : Mappings) (k offset n : ℕ) (overwrite : Bool) (p : Prepared) : Type 0 where
+      pub works : EffectOnSound (abstract_of view backing old out) (abstract_of view backing new (set_slot out k (Some p))) [] []
+      pub sound : ImageInvariant view backing (pending_in view backing new (set_slot out k (Some p))) new (set_slot out k (Some p))
       pub header : MovesTables old.file.header.fields new.file.header.fields
       pub covers : CoversStay old.file.header.fields (known_in view old.file) new.file.header.fields (known_in view new.file)
-      pub prepared : IsPrepared (cluster_size old.file.header.fields) (guest_of (abstract_of view backing old out)).disk offset n overwrite (meaning view backing new p)
-      pub is : guest_of (abstract_of view backing new (slice_set out k (Some p))) ≡ with_slot (guest_of (abstract_of view backing old out)) k (Some (meaning view backing new p))
+      pub prepared : IsPrepared (cluster_size old.file.header.fields) (guest_of (abstract_of view backing old out)).disk offset n overwrite (meaning view backing out.place new p)
+      pub is : guest_of (abstract_of view backing new (set_slot out k (Some p))) ≡ with_slot (guest_of (abstract_of view backing old out)) k (Some (meaning view backing out.place new p))
 
-    abbrev pub Readies : Qcow2 S F → Qcow2 S F → List (Option Prepared) → ℕ → ℕ → Bool → Result Prepared ImageError → Type 0
-    Readies old new out offset n overwrite (Ok p) = (k : ℕ) → slice_get out k ≡ Some None → IsReadied old new out k offset n overwrite p
+    abbrev pub Readies : Qcow2 S F → Qcow2 S F → Mappings → ℕ → ℕ → Bool → Result Prepared ImageError → Type 0
+    Readies old new out offset n overwrite (Ok p) = (k : ℕ) → slice_get out.slots k ≡ Some None → IsReadied old new out k offset n overwrite p
     Readies old new out offset n overwrite (Err e) = RefusedFillingStep view backing (pending_in view backing old out) old new out e
 
     -- A whole prepare, which also frees clusters.
-    abbrev pub PreparesRange : Qcow2 S F → Qcow2 S F → List (Option Prepared) → ℕ → ℕ → Bool → Result Prepared ImageError → Type 0
-    PreparesRange old new out offset n overwrite (Ok p) = (k : ℕ) → slice_get out k ≡ Some None → IsReadied old new out k offset n overwrite p
+    abbrev pub PreparesRange : Qcow2 S F → Qcow2 S F → Mappings → ℕ → ℕ → Bool → Result Prepared ImageError → Type 0
+    PreparesRange old new out offset n overwrite (Ok p) = (k : ℕ) → slice_get out.slots k ≡ Some None → IsReadied old new out k offset n overwrite p
     PreparesRange old new out offset n overwrite (Err e) = RefusedCall old new out e

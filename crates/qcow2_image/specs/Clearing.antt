@@ -1,4 +1,5 @@
 -- Clearing the whole clusters of a range, so that they read as zeros or as the backing disk.
+use Rattle.qcow2_image.specs.declared.mapping.Place.{Place}
 use Rattle.qcow2_metadata.specs.declared.l2_mapping.L2Mapping.TheVariants as M
 use Rattle.qcow2_alloc.specs.declared.error.ImageError.TheVariants as I
 use Rattle.std.specs.Prelude.{ℕ, zero, suc, ◌+◌, ◌*◌, ◌/◌, ◌%◌, ◌≡◌, ◌≢◌, ◌⊎◌, ◌<◌, ◌≤◌, ◌&&◌, ◌++◌, Bool, true, not, nat_lt, List, [], ◌∷◌, Option, Some, None, IsSome, IsTrue, Result, Ok, Err, slice_get}
@@ -34,14 +35,14 @@ use Rattle.qcow2_alloc.specs.ImageFile.{FileInvariant, contents_in, known_in, st
 use Rattle.qcow2_alloc.specs.MetadataCaches.{CacheInvariant, IsEntryAt, MadeEntry, RecordsHeld, known_of, l2_at, order_of}
 use Rattle.qcow2_image.specs.Backings.{HasPinnedMapping}
 use Rattle.qcow2_image.specs.CallParts.{RefusedCall}
-use Rattle.qcow2_image.specs.Calls.{AnswersCall, refusal_of}
+use Rattle.qcow2_image.specs.Calls.{AnswersCall, refusal_of, AnswersGiving}
 use Rattle.qcow2_image.specs.declared.discarding.ClearMode.{ClearMode}
 use Rattle.qcow2_image.specs.declared.discarding.ClearMode.TheVariants.{Uncovered, Zeros, KeptZeros}
 use Rattle.qcow2_image.specs.declared.image.Qcow2.{Qcow2}
 use Rattle.qcow2_image.specs.declared.prepared.Prepared.{Prepared}
 use Rattle.qcow2_image.specs.Found.{l1_index_of}
 use Rattle.qcow2_image.specs.Image.{is_writable, size_of}
-use Rattle.qcow2_image.specs.ImageInvariant.{ImageInvariant, abstract_of, disk_of, listed_run, of_data, pending_in, to_free}
+use Rattle.qcow2_image.specs.ImageInvariant.{ImageInvariant, abstract_of, disk_of, listed_run, of_data, pending_in, to_free, Mappings, in_image}
 use Rattle.qcow2_image.specs.L1Entries.{NeedsOverflowingL1Entry}
 use Rattle.qcow2_image.specs.MayFail.{MayFailAllocating}
 use Rattle.qcow2_image.specs.MovedTables.{MovesTables}
@@ -86,10 +87,10 @@ module _ {S F : Type 0} (image : Qcow2 S F) (offset n : ℕ) where
   refuses_to_clear how = refuses_clearing (shown_by how)
 
 -- A pinned mapping is in the L2 table of this offset. (Pinned: prepared, and not existing.)
-pub record IsUnderMapping (h : HeaderFields) (offset : ℕ) (out : List (Option Prepared)) : Type 0 where
+pub record IsUnderMapping (h : HeaderFields) (offset : ℕ) (out : Mappings) : Type 0 where
   pub place : ℕ
   pub other : Prepared
-  pub is_out : slice_get out place ≡ Some (Some other)
+  pub is_out : slice_get out.slots place ≡ Some (Some other)
   pub keeps_table : IsSome (table_of other)
   pub same_table : l1_index_of h other.guest ≡ l1_index_of h offset
 
@@ -107,45 +108,45 @@ ClearsImageCovers how from to h known h' known' = ClearsBy (shown_by how) from t
 module _ {S F : Type 0} (view : S → StorageView) (backing : F → BackingView) where
   -- The setting and the disk of an image, whatever mappings are prepared.
   abbrev pub setting_of : Qcow2 S F → Setting
-  setting_of image = (abstract_of view backing image []).setting
+  setting_of image = (abstract_of view backing image (in_image [])).setting
 
   -- What clearing a range gives.
-  abbrev pub all_given_by_clear : Qcow2 S F → ClearMode → ℕ → ℕ → List GivenBytes
-  all_given_by_clear image how offset n = given_by_clear (setting_of image) (disk_of view backing image) (shown_by how) offset n ∷ []
+  abbrev pub all_given_by_clear : Place → Qcow2 S F → ClearMode → ℕ → ℕ → List GivenBytes
+  all_given_by_clear place image how offset n = given_by_clear (setting_of image) (disk_of view backing place image) (shown_by how) offset n ∷ []
 
   -- The whole clusters of a range are cleared, and the cleared range is returned; or the call was refused.
   abbrev pub Clears : ClearMode → Qcow2 S F → Qcow2 S F → ℕ → ℕ → Result (ℕ × ℕ) ImageError → Type 0
   Clears how old new offset n result =
-      AnswersCall view backing old new (all_given_by_clear old how offset n)
+      AnswersGiving view backing old new (λ place. all_given_by_clear place old how offset n)
       (λ range was is. (range ≡ answered (setting_of old).cluster_size was.disk.size offset n) × (is ≡ with_disk was (cleared_at (setting_of old) was.disk (shown_by how) offset n))) result
 
   -- A refusal other than a fault gives nothing.
   abbrev pub RefusesUngiven : Qcow2 S F → Qcow2 S F → ImageError → Type 0
-  RefusesUngiven old new e = (IsRefusalByFault (refusal_of e) → ⊥) → (out : List (Option Prepared)) → let v = abstract_of view backing old out in let w = abstract_of view backing new out in RefusedEffect v w [] [] (refusal_of e) (IsSame v w)
+  RefusesUngiven old new e = (IsRefusalByFault (refusal_of e) → ⊥) → (out : Mappings) → let v = abstract_of view backing old out in let w = abstract_of view backing new out in RefusedEffect v w [] [] (refusal_of e) (IsSame v w)
 
   -- A refusal other than a fault gives nothing. If the range was not refused at once, the refusal is a limit; or 20, if an L1 entry past 64 bits would have to be written for the first offset;
   -- or 8, if a mapping is pinned; or 9, if one is pinned in the L2 table of the first offset. If no mapping is pinned, the offset has no L2 table of its own then.
   pub record RefusesClearing (how : ClearMode) (old new : Qcow2 S F) (offset n : ℕ) (e : ImageError) : Type 0 where
     pub ungiven : RefusesUngiven old new e
-    pub lacks : refuses_to_clear old offset n how ≡ None → (out : List (Option Prepared)) → (abstract_of view backing old out).is_sound → (HasPinnedMapping out → ⊥) → IsFaultOrLacksTable view new (from_in old offset n) e
-    pub may_fail : refuses_to_clear old offset n how ≡ None → (out : List (Option Prepared)) → (abstract_of view backing old out).is_sound → MayFailAllocating (HasPinnedMapping out) (IsUnderMapping old.file.header.fields (from_in old offset n) out) ⊥ (NeedsOverflowingL1Entry old (from_in old offset n)) e
+    pub lacks : refuses_to_clear old offset n how ≡ None → (out : Mappings) → (abstract_of view backing old out).is_sound → (HasPinnedMapping out → ⊥) → IsFaultOrLacksTable view new (from_in old offset n) e
+    pub may_fail : refuses_to_clear old offset n how ≡ None → (out : Mappings) → (abstract_of view backing old out).is_sound → MayFailAllocating (HasPinnedMapping out) (IsUnderMapping old.file.header.fields (from_in old offset n) out) ⊥ (NeedsOverflowingL1Entry old (from_in old offset n)) e
 
   -- ---- parts of the work
 
   -- What clearing gives between two offsets.
-  abbrev pub given_bytes_between : Qcow2 S F → ClearMode → (from to : ℕ) → List GivenBytes
-  given_bytes_between image how from to = given_shown (cleared (setting_of image) (disk_of view backing image) (shown_by how) from to) from to ∷ []
+  abbrev pub given_bytes_between : Place → Qcow2 S F → ClearMode → (from to : ℕ) → List GivenBytes
+  given_bytes_between place image how from to = given_shown (cleared (setting_of image) (disk_of view backing place image) (shown_by how) from to) from to ∷ []
 
   -- The clusters between two offsets are cleared, and the host clusters that lost a reference wait to be freed.
-  pub record ClearsPart (how : ClearMode) (from to : ℕ) (old new : Qcow2 S F) (out : List (Option Prepared)) : Type 0 where
-    pub works : EffectOnSound (abstract_of view backing old out) (abstract_of view backing new out) (given_bytes_between old how from to) []
+  pub record ClearsPart (how : ClearMode) (from to : ℕ) (old new : Qcow2 S F) (out : Mappings) : Type 0 where
+    pub works : EffectOnSound (abstract_of view backing old out) (abstract_of view backing new out) (given_bytes_between out.place old how from to) []
     pub sound : ImageInvariant view backing (pending_in view backing new out) new out
-    pub shows : guest_of (abstract_of view backing new out) ≡ with_disk (guest_of (abstract_of view backing old out)) (cleared (setting_of old) (disk_of view backing old) (shown_by how) from to)
+    pub shows : guest_of (abstract_of view backing new out) ≡ with_disk (guest_of (abstract_of view backing old out)) (cleared (setting_of old) (disk_of view backing out.place old) (shown_by how) from to)
     pub header : MovesTables old.file.header.fields new.file.header.fields
     pub covers : ClearsImageCovers how from to old.file.header.fields (known_in view old.file) new.file.header.fields (known_in view new.file)
     pub recorded : IsTrue new.file.caches.is_changed
 
-  abbrev pub ClearsOrRefuses : ClearMode → (from to : ℕ) → Qcow2 S F → Qcow2 S F → List (Option Prepared) → Result (Unit {0}) ImageError → Type 0
+  abbrev pub ClearsOrRefuses : ClearMode → (from to : ℕ) → Qcow2 S F → Qcow2 S F → Mappings → Result (Unit {0}) ImageError → Type 0
   ClearsOrRefuses how from to old new out (Ok _) = ClearsPart how from to old new out
   ClearsOrRefuses how from to old new out (Err e) = RefusedCall view backing old new out e
 
@@ -177,7 +178,7 @@ with_caches a caches = record a { file = record a.file { caches = caches } }
 
 module _ {S F : Type 0} (view : S → StorageView) (backing : F → BackingView) where
   -- When n entries of a cached L2 table, from `column` on, may be cleared.
-  pub record MayClear (how : ClearMode) (t row column n : ℕ) (a : Qcow2 S F) (out : List (Option Prepared)) (p : Pending) : Type 0 where
+  pub record MayClear (how : ClearMode) (t row column n : ℕ) (a : Qcow2 S F) (out : Mappings) (p : Pending) : Type 0 where
     pub sound : ImageInvariant view backing p a out
     pub real : table_at a.file.header.fields (known_in view a.file) row ≢ 0
     pub place : table_at a.file.header.fields (known_in view a.file) row ≡ t * cluster_size a.file.header.fields
@@ -189,7 +190,7 @@ module _ {S F : Type 0} (view : S → StorageView) (backing : F → BackingView)
     pub reach : (i : ℕ) → i < n → IsInReach (cover a.file.header.fields (known_in view a.file) (guest_at a.file.header.fields row column + i))
 
   -- The n entries are cleared.
-  pub record AreCleared (how : ClearMode) (row column n : ℕ) (a : Qcow2 S F) (caches : MetadataCaches S) (out : List (Option Prepared)) (p : Pending) : Type 0 where
+  pub record AreCleared (how : ClearMode) (row column n : ℕ) (a : Qcow2 S F) (caches : MetadataCaches S) (out : Mappings) (p : Pending) : Type 0 where
     pub now : Pending
     pub sound_now : ImageInvariant view backing now (with_caches a caches) out
     pub turn : MapsInTurn (is_cleared how) (guest_at a.file.header.fields row column) n (state_in view a.file p) (state_in view (with_caches a caches).file now)
@@ -208,8 +209,8 @@ module _ {S F : Type 0} (view : S → StorageView) (backing : F → BackingView)
     pub rest : b ≡ with_caches a b.file.caches
     pub marks : KeepsPinsAndNotes a.file.caches b.file.caches
     pub new_data : IsSome (l2_at a.file.caches t) → IsSome (l2_at b.file.caches t)
-    pub part : (out : List (Option Prepared)) (p : Pending) (row : ℕ) → MayClear how t row column n a out p → AreCleared how row column n a b.file.caches out p
-    pub recorded : (out : List (Option Prepared)) (p : Pending) (row : ℕ) → MayClear how t row column n a out p → 0 < n → IsTrue b.file.caches.is_changed
+    pub part : (out : Mappings) (p : Pending) (row : ℕ) → MayClear how t row column n a out p → AreCleared how row column n a b.file.caches out p
+    pub recorded : (out : Mappings) (p : Pending) (row : ℕ) → MayClear how t row column n a out p → 0 < n → IsTrue b.file.caches.is_changed
     pub behind : KeepBehindHeader a.file.caches b.file.caches
 
   -- ---- what is read before the first entry changes

@@ -12,7 +12,7 @@ use Rattle.qcow2_image.specs.Backings.{HasPinnedMapping}
 use Rattle.qcow2_image.specs.Clearing.{Clears, ClearsImageCovers, ClearsOrRefuses, IsClearable, IsUnderMapping, RefusesClearing, from_in, refuses_to_clear, to_in}
 use Rattle.qcow2_image.specs.Faults.{CountsImageFaults}
 use Rattle.qcow2_image.specs.Image.{HasNothingToFree, IsSameImage, size_of}
-use Rattle.qcow2_image.specs.ImageInvariant.{abstract_of}
+use Rattle.qcow2_image.specs.ImageInvariant.{abstract_of, Mappings}
 use Rattle.qcow2_image.specs.L1Entries.{HasOwnTable, NeedsOverflowingL1Entry}
 use Rattle.qcow2_image.specs.Limits.{IfLimit, IsLimited}
 use Rattle.qcow2_image.specs.MayFail.{MayFailAllocating}
@@ -50,23 +50,23 @@ module _ {S F : Type 0} (view : S → StorageView) (backing : F → BackingView)
       pub late : may_clear → IfErr result (MayFailPreparing new)
       pub refused : IfErr result (RefusesClearing view backing how old new offset n)
       pub pinned : touches_some → may_clear → HasOwnTable old (from_in old offset n) → RespectsPins old (from_in old offset n) result
-      pub under : may_clear → touches_some → (out : List (Option Prepared)) → (abstract_of view backing old out).is_sound
+      pub under : may_clear → touches_some → (out : Mappings) → (abstract_of view backing old out).is_sound
           → IfErr result (λ e. e ≡ TablePrepared → IsUnderMapping old.file.header.fields (from_in old offset n) out) × IfOk result (λ range. IsUnderMapping old.file.header.fields (from_in old offset n) out → ⊥)
-      pub freed : may_clear → touches_some → (out : List (Option Prepared)) → (abstract_of view backing old out).is_sound → IfErr result (FreesRefused new)
-      pub limit : may_clear → touches_some → (out : List (Option Prepared)) → (abstract_of view backing old out).is_sound → IfLimit result (IsLimited view backing [] (from_in old offset n + 1) old out)
+      pub freed : may_clear → touches_some → (out : Mappings) → (abstract_of view backing old out).is_sound → IfErr result (FreesRefused new)
+      pub limit : may_clear → touches_some → (out : Mappings) → (abstract_of view backing old out).is_sound → IfLimit result (IsLimited view backing [] (from_in old offset n + 1) old out)
 
     -- The call returns how much of the range was cleared. If no cluster is whole, it changes nothing. On a sound image the guest sees the whole clusters cleared, a change is counted, and no cluster waits to be freed.
     pub record ClearsSoundly : Type 0 where
       pub range : IfOk result (λ range. range ≡ answered (cluster_size old.file.header.fields) (size_of old) offset n)
       pub nothing : may_clear → to_in old offset n ≤ from_in old offset n → (result ≡ Ok (from_in old offset n, 0)) × (new ≡ old)
       pub sees : Clears view backing how old new offset n result
-      pub covers : (out : List (Option Prepared)) → (abstract_of view backing old out).is_sound
+      pub covers : (out : Mappings) → (abstract_of view backing old out).is_sound
           → OnOk result (ClearsImageCovers how (from_in old offset n) (to_in old offset n) old.file.header.fields (known_in view old.file) new.file.header.fields (known_in view new.file))
       pub emptied : touches_some → OnOk result (HasNothingToFree new)
-      pub changed : (out : List (Option Prepared)) → (abstract_of view backing old out).is_sound → touches_some → OnOk result (ChangesRose old new)
+      pub changed : (out : Mappings) → (abstract_of view backing old out).is_sound → touches_some → OnOk result (ChangesRose old new)
 
   -- ---- the clusters between two offsets within one L2 table
-  module _ (how : ClearMode) (from to : ℕ) (old new : Qcow2 S F) (out : List (Option Prepared)) (result : Result (Unit {0}) ImageError) where
+  module _ (how : ClearMode) (from to : ℕ) (old new : Qcow2 S F) (out : Mappings) (result : Result (Unit {0}) ImageError) where
     -- The clusters between two cluster boundaries are cleared, or the part is refused. Each refusal has its cause in the image before the part; a limit (13) was passed at some state within it. If no mapping is pinned, a refusal is a fault, or the first offset has no L2 table of its own.
     pub record ClearsWhole : Type 0 where
       pub clears : ClearsOrRefuses view backing how from to old new out result

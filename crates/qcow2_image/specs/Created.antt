@@ -1,4 +1,5 @@
 -- Creating an image: what is on the storage then, and what a stop may leave.
+use Rattle.qcow2_image.specs.declared.mapping.Place.TheVariants.{Image}
 use Rattle.std.specs.Prelude.{ℕ, IfErr, ◌≡◌, ◌==◌, ◌&&◌, ◌||◌, ◌⊎◌, ◌+◌, ◌*◌, ◌/◌, ◌^◌, ◌<◌, ◌≤◌, Bool, IsTrue, true, false, List, None, Option, Some, Result, Ok, Err, [], is_some, length, nat_lt, option_map, unwrap_or, if◌then◌else◌}
 use Rattle.std.specs.String.{string_bytes}
 use Rattle.image_access.specs.Backing.{BackingView}
@@ -43,7 +44,7 @@ use Rattle.qcow2_image.specs.ImageSteps.{MarkedStep}
 use Rattle.qcow2_image.specs.MayFail.{MayFailGrowing}
 use Rattle.qcow2_image.specs.Refusals.{IsFaultOrLimit}
 use Rattle.qcow2_alloc.specs.ImageError.{IsFault}
-use Rattle.qcow2_image.specs.ImageInvariant.{IsHonestBacking, abstract_of}
+use Rattle.qcow2_image.specs.ImageInvariant.{IsHonestBacking, abstract_of, in_image}
 use Rattle.qcow2_image.specs.Limits.{IsLimited}
 use Rattle.qcow2_image.specs.Resizing.{GrowsLast, GrowsTables, GrowsTo, IsResized, all_given_by_grow, refuses_to_resize, size_after, takes_over}
 
@@ -104,10 +105,10 @@ longest_disk size = 4194304 * (size / 8) * size
 -- An image with these contents was opened, with no cluster waiting to be freed. Growing its disk in this mode passed a limit. The storage that is returned holds an image that is still sound. Every surplus is the same, and no cluster was leaked.
 pub record CantEnlarge {S F : Type 0} (view : S → StorageView) (backing : F → BackingView) (mode : PreallocateMode) (size : ℕ) (contents : List ℕ) (storage : S) : Type 0 where
   pub opened : Qcow2 S F
-  pub is_opened : IsOpened (abstract_of view backing opened [])
+  pub is_opened : IsOpened (abstract_of view backing opened (in_image []))
   pub stands : (view_in view opened.file).contents ≡ contents
   pub emptied : HasNothingToFree opened
-  pub limit : IsLimited view backing (all_given_by_grow view backing opened size mode) (rounded_up (cluster_size opened.file.header.fields) size) opened []
+  pub limit : IsLimited view backing (all_given_by_grow view backing Image opened size mode) (rounded_up (cluster_size opened.file.header.fields) size) opened (in_image [])
   pub left : Qcow2 S F
   pub is_left : storage_of_image left ≡ storage
   pub leaves : LeavesSound view backing opened left
@@ -312,8 +313,8 @@ module _ {S F : Type 0} (view : S → StorageView) (backing : F → BackingView)
     pub no_larger : refuses_to_resize old ≡ None → size ≤ size_of old → (r ≡ Ok tt) × (new ≡ old)
     pub image : size_of old < size → IsResized (size_after r (size_of old) size) old new
     pub sees : GrowsTo view backing old new size mode r
-    pub tables : refuses_to_resize old ≡ None → size_of old < size → (abstract_of view backing old []).is_sound → GrowsTables view backing old new size mode [] r
-    pub last : (abstract_of view backing old []).is_sound → GrowsLast view backing mode size old new r
+    pub tables : refuses_to_resize old ≡ None → size_of old < size → (abstract_of view backing old (in_image [])).is_sound → GrowsTables view backing old new size mode (in_image []) r
+    pub last : (abstract_of view backing old (in_image [])).is_sound → GrowsLast view backing mode size old new r
 
 -- ---- an image that is created and opened
 
@@ -328,8 +329,8 @@ module _ {S F : Type 0} (view : S → StorageView) (backing : F → BackingView)
     pub opens : IsHonestBacking view backing (option_flatten opener.backing) → option_flatten opener.data_file ≡ None → Opens view backing (view opener.image) opened
     pub takes : AllocatesPlace view backing mode opened image size r
     pub marks : MarkedStep view backing opened image r
-    pub may_fail : refuses_to_resize opened ≡ None → size_of opened < size → (abstract_of view backing opened []).is_sound
-        → IfErr r (λ e. MayFailGrowing [] mode (size_of opened) (rounded_up (cluster_size opened.file.header.fields) size) opened.file.header.fields (known_in view opened.file) e ⊎ ((e ≡ I.Preallocation) × IsTrue (takes_over opened mode)))
+    pub may_fail : refuses_to_resize opened ≡ None → size_of opened < size → (abstract_of view backing opened (in_image [])).is_sound
+        → IfErr r (λ e. MayFailGrowing (in_image []) mode (size_of opened) (rounded_up (cluster_size opened.file.header.fields) size) opened.file.header.fields (known_in view opened.file) e ⊎ ((e ≡ I.Preallocation) × IsTrue (takes_over opened mode)))
 
   -- The builder was refused; or its image was opened, and its disk could not be grown. The storage is returned.
   abbrev pub RefusesGrown : Qcow2OpenBuilder S F → PreallocateMode → ℕ → S × ImageError → Type 0
@@ -338,10 +339,10 @@ module _ {S F : Type 0} (view : S → StorageView) (backing : F → BackingView)
 
   -- The image is open, with this number and for writing, and is not flushed. No cluster is lost, no table lies in the header's cluster, and each guest cluster has the mapping of the mode.
   pub record HoldsNewDisk (mode : PreallocateMode) (size number : ℕ) (image : Qcow2 S F) : Type 0 where
-    pub sound : (abstract_of view backing image []).is_sound
+    pub sound : (abstract_of view backing image (in_image [])).is_sound
     pub number_is : number_of image ≡ number
     pub writable : is_writable image ≡ true
-    pub lost : HasLostNone (abstract_of view backing image [])
+    pub lost : HasLostNone (abstract_of view backing image (in_image []))
     pub behind : LiesBehindHeader image
     pub covers : IsPreallocated mode size (known_in view image.file)
 

@@ -9,7 +9,7 @@ use Rattle.qcow2_alloc.specs.Quiet.{WritesNothing}
 use Rattle.qcow2_alloc.specs.declared.error.ImageError.{ImageError}
 use Rattle.qcow2_image.specs.Faults.{CountsImageFaults}
 use Rattle.qcow2_image.specs.Image.{is_beside}
-use Rattle.qcow2_image.specs.ImageInvariant.{ImageInvariant}
+use Rattle.qcow2_image.specs.ImageInvariant.{ImageInvariant, Mappings}
 use Rattle.qcow2_image.specs.ImageSteps.{ImageFails, ImageStep}
 use Rattle.qcow2_image.specs.InternalSteps.{InternalStep}
 use Rattle.qcow2_image.specs.declared.image.Qcow2.{Qcow2}
@@ -28,7 +28,7 @@ module _ {S F : Type 0} (view : S → StorageView) (backing : F → BackingView)
   -- Guests' data are read, from the data file or the image's own storage. Nothing is written, and all else in memory stays the same.
   pub record ReadsData : Type 0 where
     pub rest : new ≡ record old { file = record old.file { storage = new.file.storage }; data_file = new.data_file }
-    pub keeps : (p : Pending) (out : List (Option Prepared)) → ImageInvariant view backing p old out → InternalStep view backing p p old new out
+    pub keeps : (p : Pending) (out : Mappings) → ImageInvariant view backing p old out → InternalStep view backing p p old new out
     pub same : ContentsStay (view_in view old.file) (view_in view new.file)
     pub quiet : WritesNothing view old.file.storage new.file.storage
 

@@ -18,7 +18,7 @@ use Rattle.qcow2_image.specs.declared.image.Qcow2.{Qcow2}
 use Rattle.qcow2_image.specs.Found.{l1_index_of}
 use Rattle.qcow2_image.specs.Image.{is_writable, leaked_in}
 use Rattle.qcow2_image.specs.MovedTables.{CoversStay}
-use Rattle.qcow2_image.specs.ImageInvariant.{ImageInvariant, abstract_of}
+use Rattle.qcow2_image.specs.ImageInvariant.{ImageInvariant, abstract_of, in_image}
 
 -- The two headers differ only in fields that an open image writes.
 abbrev pub SameFormat : HeaderFields → HeaderFields → Type 0
@@ -55,16 +55,16 @@ module _ {S F : Type 0} (view : S → StorageView) where
   module _ (backing : F → BackingView) where
     -- The image is sound again, with other pending clusters and a header of the same format.
     pub record Extends (p : Pending) (old new : Qcow2 S F) : Type 0 where
-      pub sound : ImageInvariant view backing p new []
+      pub sound : ImageInvariant view backing p new (in_image [])
       pub since : Lasts old new []
       pub format : SameFormat old.file.header.fields new.file.header.fields
       pub autoclear : new.file.header.fields.autoclear ≡ old.file.header.fields.autoclear
 
     -- The image is still sound, may be written if it could be before, and every surplus is the same.
     pub record KeepsSurplus (old new : Qcow2 S F) : Type 0 where
-      pub sound : (abstract_of view backing new []).is_sound
+      pub sound : (abstract_of view backing new (in_image [])).is_sound
       pub writable : is_writable new ≡ is_writable old
-      pub surplus : (abstract_of view backing new []).surplus ≡ (abstract_of view backing old []).surplus
+      pub surplus : (abstract_of view backing new (in_image [])).surplus ≡ (abstract_of view backing old (in_image [])).surplus
 
     -- What a refused growth leaves: a sound image, in which no cluster leaked.
     pub record LeavesSound (old new : Qcow2 S F) : Type 0 where

@@ -1,5 +1,5 @@
 -- The view of an open image in contracts: its disk, its prepared mappings, what is pending, and when it is sound.
-use Rattle.std.specs.Prelude.{ℕ, ◌+◌, ◌-◌, ◌*◌, ◌/◌, ◌%◌, ◌≡◌, ◌<◌, ◌≤◌, ◌==◌, Bool, true, false, is_some, is_none, IfSome, List, [], ◌∷◌, length, nat_le, Option, None, Some, slice_get, if◌then◌else◌}
+use Rattle.std.specs.Prelude.{ℕ, ◌+◌, ◌-◌, ◌*◌, ◌/◌, ◌%◌, ◌≡◌, ◌<◌, ◌≤◌, ◌==◌, Bool, true, false, is_some, is_none, IfSome, List, [], ◌∷◌, length, nat_le, Option, None, Some, slice_get, slice_set, if◌then◌else◌}
 use Rattle.std.specs.Option.{option_map_or}
 use Rattle.image_access.specs.Backing.{BackingView}
 use Rattle.image_access.specs.Moments.{StorageView}
@@ -13,7 +13,7 @@ use Rattle.qcow2_metadata.specs.Guest.{known_byte}
 use Rattle.qcow2_metadata.specs.EntryTable.{EntryTableView, IsL1TableOf, entry_count}
 use Rattle.qcow2_metadata.specs.L2Mapping.{IsHostCluster, IsInReach, named_run}
 use Rattle.qcow2_metadata.specs.declared.l2_mapping.L2Mapping.TheVariants.{Data, Zero}
-use Rattle.qcow2_disk.specs.Disk.{Disk, disk}
+use Rattle.qcow2_disk.specs.Disk.{Disk, disk_with}
 use Rattle.qcow2_laws.specs.CrashInvariant.{Pending}
 use Rattle.qcow2_disk.specs.Mappings.{PreparedMapping, is_copied_data}
 use Rattle.qcow2_disk.specs.AbstractImages.{Abstraction, AbstractImage, abstract_image as view_of}
@@ -25,6 +25,8 @@ use Rattle.qcow2_alloc.specs.MetadataCaches.{IsEntryAt}
 use Rattle.qcow2_alloc.specs.ImageFile.{l2_pins, view_in, contents_in, known_in, FileInvariant}
 use Rattle.qcow2_alloc.specs.KeptAllocators.{IsAllocatorOf}
 use Rattle.qcow2_image.specs.declared.image.Qcow2.{Qcow2}
+use Rattle.qcow2_image.specs.declared.mapping.Place.{Place}
+use Rattle.qcow2_image.specs.declared.mapping.Place.TheVariants.{DataFile, Image}
 use Rattle.qcow2_image.specs.declared.prepared.Prepared.{Prepared}
 use Rattle.qcow2_image.specs.declared.prepared.ClusterMapping.{ClusterMapping}
 use Rattle.qcow2_image.specs.declared.prepared.ClusterMapping.TheVariants.{InPlace, Kept, New}
@@ -56,10 +58,31 @@ abbrev pub listed_run : Option (ℕ × ℕ) → List ClustersToFreeEntry
 listed_run None = []
 listed_run (Some run) = data_entry run.0 run.1 ∷ []
 
--- The sum over all prepared mappings.
-abbrev pub over_all : (Prepared → ℕ → ℕ) → List (Option Prepared) → ℕ → ℕ
-over_all f [] k = 0
-over_all f (p ∷ out) k = option_map_or (λ q. f q k) p 0 + over_all f out k
+-- The prepared mappings of an image by slot, and the file that holds guests' data.
+pub record Mappings : Type 0 where
+  pub place : Place
+  pub slots : List (Option Prepared)
+
+-- Mappings of an image whose own file holds guests' data.
+abbrev pub in_image : List (Option Prepared) → Mappings
+in_image slots = record { place = Image; slots = slots }
+
+-- Another mapping, or none, is in a slot.
+abbrev pub set_slot : Mappings → ℕ → Option Prepared → Mappings
+set_slot out k p = record { place = out.place; slots = slice_set out.slots k p }
+
+-- The sum over the prepared mappings of a list, and over all.
+abbrev pub over_slots : (Prepared → ℕ → ℕ) → List (Option Prepared) → ℕ → ℕ
+over_slots f [] k = 0
+over_slots f (p ∷ slots) k = option_map_or (λ q. f q k) p 0 + over_slots f slots k
+
+abbrev pub over_all : (Prepared → ℕ → ℕ) → Mappings → ℕ → ℕ
+over_all f out k = over_slots f out.slots k
+
+-- The bytes of the file that holds guests' data: the image's own, or its data file.
+abbrev pub bytes_for : Place → (own beside : Bytes) → Bytes
+bytes_for Image own beside = own
+bytes_for DataFile own beside = beside
 
 -- ---- prepared mappings over the bytes of an image: on the storage, and known
 
@@ -113,11 +136,28 @@ module _ (h : HeaderFields) where
       pub nameable : IsHostCluster h.cluster_bits first
       pub entry : cover h known (cluster_of p + i) ≡ Zero (Some (host_begin_of p i, true))
 
-    -- The i-th cluster of a mapping is in place (copied data), kept or new.
+    -- The cluster is at its guest offset in the data file: the L2 entry of the i-th guest cluster is not copied data yet.
+    pub record IsGuestAt (i : ℕ) : Type 0 where
+      pub place : host_begin_of p i ≡ (cluster_of p + i) * cluster_size h
+      pub nameable : IsHostCluster h.cluster_bits (cluster_of p + i)
+      pub entry : is_copied_data (cover h known (cluster_of p + i)) ≡ false
+      pub reach : IsInReach (cover h known (cluster_of p + i))
+
+    -- The cluster has its place before it is entered, by the file that holds guests' data.
+    abbrev pub IsKeptIn : Place → ℕ → Type 0
+    IsKeptIn Image i = IsKeptAt i
+    IsKeptIn DataFile i = IsGuestAt i
+
+    abbrev pub IsNewIn : Place → ℕ → (taken old_data : List ClustersToFreeEntry) → Type 0
+    IsNewIn Image i taken old_data = IsNewAt i taken old_data
+    IsNewIn DataFile i taken old_data = ⊥
+
+  module _ (place : Place) (known on_storage : Bytes) (p : Prepared) where
+    -- The i-th cluster of a mapping is in place (copied data), kept or new. In a data file none is new.
     abbrev pub IsClusterMappingAt : ℕ → ClusterMapping → Type 0
     IsClusterMappingAt i InPlace = cover h known (cluster_of p + i) ≡ Data (host_begin_of p i) true
-    IsClusterMappingAt i Kept = IsKeptAt i
-    IsClusterMappingAt i (New taken old_data) = IsNewAt i taken old_data
+    IsClusterMappingAt i Kept = IsKeptIn known on_storage p place i
+    IsClusterMappingAt i (New taken old_data) = IsNewIn known on_storage p place i taken old_data
 
     -- A pinned mapping has a cluster mapping for each guest cluster that it touches. All are in one L2 table, which it pins, and whose L1 entry is marked copied.
     pub record IsPending (table : ℕ) : Type 0 where
@@ -154,6 +194,31 @@ module _ {S F : Type 0} (view : S → StorageView) (backing : F → BackingView)
   IsHonestBacking None = Unit {0}
   IsHonestBacking (Some f) = (backing f).is_honest
 
+  -- ---- the file that holds guests' data
+
+  -- The bytes of a data file.
+  abbrev pub bytes_beside : Option S → Bytes
+  bytes_beside None = λ o. 0
+  bytes_beside (Some file) = byte_at (view file).contents
+
+  -- The bytes of guests' data, as they are known.
+  abbrev pub known_for : Place → Qcow2 S F → Bytes
+  known_for place image = bytes_for place (known_in view image.file) (bytes_beside image.data_file)
+
+  -- The bytes of guests' data on the storage.
+  abbrev pub contents_for : Place → Qcow2 S F → Bytes
+  contents_for place image = bytes_for place (contents_in view image.file) (bytes_beside image.data_file)
+
+  -- The data are in the image's own file.
+  pub record IsInside (incompatible : ℕ) (data_file : Option S) : Type 0 where
+    pub inside : incompatible ≡ 0
+    pub alone : data_file ≡ None
+
+  -- Guests' data are in this file. So far a sound image has them in its own.
+  abbrev pub IsAt : Place → ℕ → Option S → Type 0
+  IsAt Image incompatible data_file = IsInside incompatible data_file
+  IsAt DataFile incompatible data_file = ⊥
+
   -- ---- prepared mappings
 
   -- The meaning of a prepared mapping: bytes that are not in place are private until the commit, which shows them. Those in new clusters are also hidden from stops.
@@ -163,19 +228,19 @@ module _ {S F : Type 0} (view : S → StorageView) (backing : F → BackingView)
   abbrev pub is_hidden : Qcow2 S F → Prepared → ℕ → Bool
   is_hidden image p o = option_map_or is_new (mapping_of_cluster image.file.header.fields p (o / cluster_size image.file.header.fields)) false
 
-  abbrev pub meaning : Qcow2 S F → Prepared → PreparedMapping
-  meaning image p = record {
+  abbrev pub meaning : Place → Qcow2 S F → Prepared → PreparedMapping
+  meaning place image p = record {
     from = p.guest;
     length = p.length;
     is_private = is_private image p;
     is_hidden = is_hidden image p;
-    shown = λ o. known_byte (if is_private image p o then contents_in view image.file (place_of image.file.header.fields p o) else 0);
+    shown = λ o. known_byte (if is_private image p o then contents_for place image (place_of image.file.header.fields p o) else 0);
   }
 
   -- The mapping belongs to this image, and is existing or ready for its commit.
-  pub record IsReady (image : Qcow2 S F) (p : Prepared) : Type 0 where
+  pub record IsReady (place : Place) (image : Qcow2 S F) (p : Prepared) : Type 0 where
     pub own : image_of p ≡ number_of image
-    pub mapped : IsReadyWith image.file.header.fields (known_in view image.file) (contents_in view image.file) p p.table
+    pub mapped : IsReadyWith image.file.header.fields place (known_in view image.file) (contents_in view image.file) p p.table
 
   -- ---- the image
 
@@ -187,27 +252,25 @@ module _ {S F : Type 0} (view : S → StorageView) (backing : F → BackingView)
     pub entries : IsL1TableOf file.header.fields (contents_in view file) table
 
   -- The invariant of an open image, with these pending clusters and these prepared mappings.
-  pub record ImageInvariant (p : Pending) (image : Qcow2 S F) (out : List (Option Prepared)) : Type 0 where
+  pub record ImageInvariant (p : Pending) (image : Qcow2 S F) (out : Mappings) : Type 0 where
     pub works : is_failed image ≡ false
     pub file : FileInvariant view p image.file
-    -- The data are in the image's own file.
-    pub inside : image.file.header.fields.incompatible ≡ 0
-    pub alone : image.data_file ≡ None
+    pub stands : IsAt out.place image.file.header.fields.incompatible image.data_file
     pub l1_table : HasL1Table image.file image.l1_table
     pub reftable : IfSome image.allocator (IsAllocatorOf view image.file)
     pub below : IsHonestBacking image.backing
-    pub ready : (k : ℕ) (q : Prepared) → slice_get out k ≡ Some (Some q) → IsReady image q
+    pub ready : (k : ℕ) (q : Prepared) → slice_get out.slots k ≡ Some (Some q) → IsReady out.place image q
     pub pinned : (table : ℕ) → l2_pins image.file.caches table ≡ over_all pins_by out table
     pub once : (table : ℕ) → over_all pins_by out table ≤ 1
 
   -- The surplus of a cluster: its refcount minus its references, new data and clusters that wait to be freed.
-  abbrev pub surplus_in : Qcow2 S F → List (Option Prepared) → ℕ → ℕ
+  abbrev pub surplus_in : Qcow2 S F → Mappings → ℕ → ℕ
   surplus_in image out k =
       count image.file.header.fields (known_in view image.file) k
       - (named image.file.header.fields (known_in view image.file) k + over_all new_data_by out k + to_free of_tables image.file.free_list k + to_free of_data image.file.free_list k)
 
   -- What is pending: the clusters of prepared mappings, and those that wait to be freed.
-  abbrev pub pending_in : Qcow2 S F → List (Option Prepared) → Pending
+  abbrev pub pending_in : Qcow2 S F → Mappings → Pending
   pending_in image out = record {
     new_data = over_all new_data_by out;
     new_tables = λ k. 0;
@@ -216,9 +279,9 @@ module _ {S F : Type 0} (view : S → StorageView) (backing : F → BackingView)
     surplus = surplus_in image out;
   }
 
-  -- The view of open images, as the abstract disk needs it.
-  abbrev pub image_abstraction : Abstraction (Qcow2 S F) Prepared
-  image_abstraction = record {
+  -- The view of open images, as the abstract disk needs it, by the file that holds guests' data.
+  abbrev pub abstraction_at : Place → Abstraction (Qcow2 S F) Prepared
+  abstraction_at place = record {
     number = number_of;
     number_of = image_of;
     setting = λ image. record { cluster_size = cluster_size image.file.header.fields; is_backed = is_some image.backing; backing = backing_bytes image.backing };
@@ -226,19 +289,23 @@ module _ {S F : Type 0} (view : S → StorageView) (backing : F → BackingView)
     storage = λ image. view_in view image.file;
     faults_below = λ image. faults_below image.backing;
     known = λ image. known_in view image.file;
-    data_bytes = λ image. known_in view image.file;
-    is_sound = λ image out. ImageInvariant (pending_in image out) image out;
-    surplus = surplus_in;
+    data_bytes = known_for place;
+    is_sound = λ image slots. ImageInvariant (pending_in image (record { place = place; slots = slots })) image (record { place = place; slots = slots });
+    surplus = λ image slots. surplus_in image (record { place = place; slots = slots });
     leaked = leaked_in;
     to_be_freed = λ image k. if is_writable image then to_free of_tables image.file.free_list k + to_free of_data image.file.free_list k else 0;
-    means = meaning;
+    means = meaning place;
     host = λ p. record { offset = offset_of p; length = length_of p; is_existing = is_none (table_of p) };
   }
 
+  -- The same of images whose own file holds guests' data.
+  abbrev pub image_abstraction : Abstraction (Qcow2 S F) Prepared
+  image_abstraction = abstraction_at Image
+
   -- The disk of the known contents.
-  abbrev pub disk_of : Qcow2 S F → Disk
-  disk_of image = disk (known_in view image.file) (backing_bytes image.backing)
+  abbrev pub disk_of : Place → Qcow2 S F → Disk
+  disk_of place image = disk_with (known_in view image.file) (known_for place image) (backing_bytes image.backing)
 
   -- The view of the image with these prepared mappings.
-  abbrev pub abstract_of : Qcow2 S F → List (Option Prepared) → AbstractImage
-  abstract_of image out = view_of image_abstraction image out
+  abbrev pub abstract_of : Qcow2 S F → Mappings → AbstractImage
+  abstract_of image out = view_of (abstraction_at out.place) image out.slots

@@ -1,4 +1,5 @@
 -- What the parts of a call do to a sound image.
+use Rattle.qcow2_image.specs.declared.mapping.Place.{Place}
 use Rattle.qcow2_metadata.specs.Bytes.{is_within}
 use Rattle.std.specs.Prelude.{ℕ, ◌+◌, ◌-◌, ◌*◌, ◌%◌, ◌^◌, ◌&&◌, min, Bool, false, ◌/◌, ◌<◌, ◌≤◌, ◌≡◌, ◌⊎◌, ◌++◌, true, List, [], ◌∷◌, Option, None, Some, IsSome, IsTrue, Result, Ok, Err, ◌≢◌, slice_get, slice_set}
 use Rattle.image_access.specs.Backing.{BackingView}
@@ -30,7 +31,7 @@ use Rattle.qcow2_metadata.specs.declared.l2_mapping.L2Mapping.TheVariants.{Zero}
 use Rattle.qcow2_laws.specs.Changes.{with_new_data}
 use Rattle.qcow2_alloc.specs.declared.clusters_to_free.ClusterKind.TheVariants as Kind
 use Rattle.qcow2_image.specs.Image.{leaked_in}
-use Rattle.qcow2_image.specs.ImageInvariant.{run_of, new_data_by, is_entered, over_all, pins_of, mapping_of_cluster, below_of, disk_of, abstract_of, ImageInvariant}
+use Rattle.qcow2_image.specs.ImageInvariant.{run_of, new_data_by, is_entered, over_all, pins_of, mapping_of_cluster, below_of, disk_of, abstract_of, ImageInvariant, Mappings, contents_for}
 
 -- The L1 entry names a table, and is marked copied.
 abbrev pub NamesOwn : ℕ → Type 0
@@ -117,7 +118,7 @@ module _ {S F : Type 0} where
 
   module _ (view : S → StorageView) (backing : F → BackingView) where
     -- Guests don't see the step. The image is sound again, and a stop at any moment is as safe as before.
-    pub record InternalStep (p p' : Pending) (old new : Qcow2 S F) (out : List (Option Prepared)) : Type 0 where
+    pub record InternalStep (p p' : Pending) (old new : Qcow2 S F) (out : Mappings) : Type 0 where
       pub sound : ImageInvariant view backing p' new out
       pub safe_step : SafeStep (state_in view old.file p) (state_in view new.file p') nothing_given []
       pub since : SafeThroughout (view_in view old.file) (view_in view new.file) (known_in view old.file) nothing_given []
@@ -128,7 +129,7 @@ module _ {S F : Type 0} where
       pub leaks : leaked_in new ≡ leaked_in old
 
     -- Guests don't see the step, and the list of clusters to free may change in any way.
-    pub record InternalFreeingStep (p p' : Pending) (old new : Qcow2 S F) (out : List (Option Prepared)) : Type 0 where
+    pub record InternalFreeingStep (p p' : Pending) (old new : Qcow2 S F) (out : Mappings) : Type 0 where
       pub sound : ImageInvariant view backing p' new out
       pub safe_step : SafeStep (state_in view old.file p) (state_in view new.file p') nothing_given []
       pub since : SafeThroughout (view_in view old.file) (view_in view new.file) (known_in view old.file) nothing_given []
@@ -143,7 +144,7 @@ module _ {S F : Type 0} where
       pub leaks : leaked_in new ≡ leaked_in old
 
     -- What a refused part leaves: a sound image with more clusters to free at most, or one that is about to fail.
-    abbrev pub RefusedStep : Pending → Qcow2 S F → Qcow2 S F → List (Option Prepared) → ImageError → Type 0
+    abbrev pub RefusedStep : Pending → Qcow2 S F → Qcow2 S F → Mappings → ImageError → Type 0
     RefusedStep p old new out e = InternalStep p (pending_with_listed p old new) old new out ⊎ InterruptedPart old new e
 
     -- The L2 table of the offset is cached, from this cluster, and its L1 entry is marked copied.
@@ -153,12 +154,12 @@ module _ {S F : Type 0} where
       pub new_data : IsSome (l2_at image.file.caches table)
 
     -- A part makes sure that the L2 table of an offset is cached and marked copied. Guests don't see it.
-    abbrev pub Ensures : Pending → Qcow2 S F → Qcow2 S F → List (Option Prepared) → ℕ → Result ℕ ImageError → Type 0
+    abbrev pub Ensures : Pending → Qcow2 S F → Qcow2 S F → Mappings → ℕ → Result ℕ ImageError → Type 0
     Ensures p old new out offset (Ok table) = InternalStep p (pending_with_listed p old new) old new out × HoldsTable new offset table
     Ensures p old new out offset (Err e) = RefusedStep p old new out e
 
     -- Guests don't see the step, but it may write to clusters that none of these mappings has. The image is sound again.
-    pub record InternalFillingStep (p p' : Pending) (old new : Qcow2 S F) (out : List (Option Prepared)) : Type 0 where
+    pub record InternalFillingStep (p p' : Pending) (old new : Qcow2 S F) (out : Mappings) : Type 0 where
       pub sound : ImageInvariant view backing p' new out
       pub safe_step : SafeStep (state_in view old.file p) (state_in view new.file p') nothing_given []
       pub since : SafeThroughout (view_in view old.file) (view_in view new.file) (known_in view old.file) nothing_given []
@@ -178,12 +179,12 @@ module _ {S F : Type 0} where
       pub leaks : leaked_in new ≡ leaked_in old
 
     -- Clusters of the list are freed. Those on the list afterwards are still pending. Or a fault ended the step.
-    abbrev pub FreesListed : Pending → Qcow2 S F → Qcow2 S F → List (Option Prepared) → Result (Unit {0}) ImageError → Type 0
+    abbrev pub FreesListed : Pending → Qcow2 S F → Qcow2 S F → Mappings → Result (Unit {0}) ImageError → Type 0
     FreesListed p old new out (Ok _) = InternalFreeingStep (with_listed p old.file.free_list) (with_listed p new.file.free_list) old new out
     FreesListed p old new out (Err e) = InternalFreeingStep (with_listed p old.file.free_list) (with_listed p new.file.free_list) old new out ⊎ InterruptedStep old new e
 
     -- What a refused part leaves: a sound image with more clusters to free at most, or one that is about to fail.
-    abbrev pub RefusedFillingStep : Pending → Qcow2 S F → Qcow2 S F → List (Option Prepared) → ImageError → Type 0
+    abbrev pub RefusedFillingStep : Pending → Qcow2 S F → Qcow2 S F → Mappings → ImageError → Type 0
     RefusedFillingStep p old new out e = InternalFillingStep p (pending_with_listed p old new) old new out ⊎ InterruptedStep old new e
 
     -- Clusters of new data have the same bytes.
@@ -191,43 +192,43 @@ module _ {S F : Type 0} where
     SameHeld p old new = (o : ℕ) → 0 < p.new_data (o / cluster_size old.file.header.fields) → contents_in view new.file o ≡ contents_in view old.file o
 
     -- The clusters that mappings hold are pending.
-    abbrev pub HoldsAll : Pending → List (Option Prepared) → Type 0
+    abbrev pub HoldsAll : Pending → Mappings → Type 0
     HoldsAll p out = (k : ℕ) → over_all new_data_by out k ≤ p.new_data k
 
     -- The range of the file lies in a cluster of new data that no mapping has yet.
-    pub record IsInHeldCluster (p : Pending) (image : Qcow2 S F) (out : List (Option Prepared)) (cluster at n : ℕ) : Type 0 where
+    pub record IsInHeldCluster (p : Pending) (image : Qcow2 S F) (out : Mappings) (cluster at n : ℕ) : Type 0 where
       pub new_data : 0 < p.new_data cluster
       pub unused : over_all new_data_by out cluster ≡ 0
       pub inside : (i : ℕ) → i < n → (at + i) / cluster_size image.file.header.fields ≡ cluster
 
     -- The zero entry of the offset's guest cluster keeps the host cluster at this place, and no mapping has that guest cluster.
-    pub record IsKeptAlone (image : Qcow2 S F) (out : List (Option Prepared)) (offset host : ℕ) : Type 0 where
+    pub record IsKeptAlone (image : Qcow2 S F) (out : Mappings) (offset host : ℕ) : Type 0 where
       pub kept : cover image.file.header.fields (known_in view image.file) (offset / cluster_size image.file.header.fields) ≡ Zero (Some (host, true))
-      pub alone : (k : ℕ) (q : Prepared) → slice_get out k ≡ Some (Some q) → mapping_of_cluster image.file.header.fields q (offset / cluster_size image.file.header.fields) ≡ None
+      pub alone : (k : ℕ) (q : Prepared) → slice_get out.slots k ≡ Some (Some q) → mapping_of_cluster image.file.header.fields q (offset / cluster_size image.file.header.fields) ≡ None
 
     -- The n bytes are copied from a guest offset to an offset of the file.
-    abbrev pub IsCopied : Qcow2 S F → Qcow2 S F → ℕ → ℕ → ℕ → Type 0
-    IsCopied old new at guest n = (i : ℕ) → i < n → known_byte (contents_in view new.file (at + i)) ≡ (disk_of view backing old).value (guest + i)
+    abbrev pub IsCopied : Place → Qcow2 S F → Qcow2 S F → ℕ → ℕ → ℕ → Type 0
+    IsCopied place old new at guest n = (i : ℕ) → i < n → known_byte (contents_for view backing place new (at + i)) ≡ (disk_of view backing place old).value (guest + i)
 
     -- The new cluster has what the guest sees of the offset's guest cluster, except where the caller promised to overwrite.
-    abbrev pub IsFilled : Qcow2 S F → Qcow2 S F → ℕ → ℕ → ℕ → Bool → Type 0
-    IsFilled old new cluster offset length overwrite =
+    abbrev pub IsFilled : Place → Qcow2 S F → Qcow2 S F → ℕ → ℕ → ℕ → Bool → Type 0
+    IsFilled place old new cluster offset length overwrite =
         let size = cluster_size old.file.header.fields in
-        (i : ℕ) → i < size → is_announced size offset length overwrite i ≡ false → known_byte (contents_in view new.file (cluster * size + i)) ≡ (disk_of view backing old).value (offset - offset % size + i)
+        (i : ℕ) → i < size → is_announced size offset length overwrite i ≡ false → known_byte (contents_for view backing place new (cluster * size + i)) ≡ (disk_of view backing place old).value (offset - offset % size + i)
 
     -- A cluster is allocated for data.
-    abbrev pub AllocatesData : Pending → Qcow2 S F → Qcow2 S F → List (Option Prepared) → Result ClustersToFreeEntry ImageError → Type 0
+    abbrev pub AllocatesData : Pending → Qcow2 S F → Qcow2 S F → Mappings → Result ClustersToFreeEntry ImageError → Type 0
     AllocatesData p old new out (Ok n) = (n.count ≡ 1) × (n.kind ≡ Kind.Data) × InternalFillingStep p (with_new_data (pending_with_listed p old new) (run_of n)) old new out
     AllocatesData p old new out (Err e) = RefusedFillingStep p old new out e
 
     -- A new cluster that no mapping has yet.
-    pub record IsGained (p : Pending) (old new : Qcow2 S F) (out : List (Option Prepared)) (offset length : ℕ) (overwrite : Bool) (mapping : L2Mapping) (n : ClustersToFreeEntry) : Type 0 where
+    pub record IsGained (p : Pending) (old new : Qcow2 S F) (out : Mappings) (offset length : ℕ) (overwrite : Bool) (mapping : L2Mapping) (n : ClustersToFreeEntry) : Type 0 where
       pub one : n.count ≡ 1
       pub kind : n.kind ≡ Kind.Data
       pub unused : over_all new_data_by out n.first_cluster ≡ 0
       pub image_step : InternalFillingStep p (with_new_data (pending_with_listed p old new) (run_of n)) old new out
-      pub filled : cover old.file.header.fields (known_in view old.file) (offset / cluster_size old.file.header.fields) ≡ mapping → IsFilled old new n.first_cluster offset length overwrite
+      pub filled : cover old.file.header.fields (known_in view old.file) (offset / cluster_size old.file.header.fields) ≡ mapping → IsFilled out.place old new n.first_cluster offset length overwrite
 
-    abbrev pub Gains : Pending → Qcow2 S F → Qcow2 S F → List (Option Prepared) → ℕ → ℕ → Bool → L2Mapping → Result ClustersToFreeEntry ImageError → Type 0
+    abbrev pub Gains : Pending → Qcow2 S F → Qcow2 S F → Mappings → ℕ → ℕ → Bool → L2Mapping → Result ClustersToFreeEntry ImageError → Type 0
     Gains p old new out offset length overwrite mapping (Ok n) = IsGained p old new out offset length overwrite mapping n
     Gains p old new out offset length overwrite mapping (Err e) = RefusedFillingStep p old new out e

@@ -18,7 +18,7 @@ use Rattle.qcow2_image.specs.BehindHeader.{NamesTablesBehind, PreservesHeaderClu
 use Rattle.qcow2_image.specs.Calls.{AnswersCall}
 use Rattle.qcow2_image.specs.Faults.{CountsImageFaults}
 use Rattle.qcow2_image.specs.Image.{HasNothingToFree, IsSameImage, is_failed, is_writable, leaked_in}
-use Rattle.qcow2_image.specs.ImageInvariant.{abstract_of, HasL1Table}
+use Rattle.qcow2_image.specs.ImageInvariant.{abstract_of, HasL1Table, Mappings}
 use Rattle.qcow2_image.specs.ImageSteps.{ImageStep, ImageStepWhere}
 use Rattle.qcow2_image.specs.Noted.{FailsOnceWritten}
 use Rattle.qcow2_image.specs.Image.{HasPinnedTable}
@@ -175,6 +175,6 @@ module _ {S F : Type 0} where
         -- A sound image with nothing to free or to write looks the same after the call. While a mapping that isn't existing is prepared, the call is refused 21 or 14. Otherwise it is refused only for a fault.
         pub record InvalidatesSoundly : Type 0 where
           pub same : IsAtRest old → AnswersCall view backing old new [] (λ done was is. is ≡ was) result
-          pub fault : (out : List (Option Prepared)) → (abstract_of view backing old out).is_sound → ¬ HasPinnedMapping out → IfErr result IsFault
-          pub prepared : (out : List (Option Prepared)) → (abstract_of view backing old out).is_sound → HasPinnedMapping out → IsErrAnd result IsOfPrepared
-          pub in_use : (out : List (Option Prepared)) → (abstract_of view backing old out).is_sound → IfErr result (λ e. IsStillInUse e → HasPinnedMapping out)
+          pub fault : (out : Mappings) → (abstract_of view backing old out).is_sound → ¬ HasPinnedMapping out → IfErr result IsFault
+          pub prepared : (out : Mappings) → (abstract_of view backing old out).is_sound → HasPinnedMapping out → IsErrAnd result IsOfPrepared
+          pub in_use : (out : Mappings) → (abstract_of view backing old out).is_sound → IfErr result (λ e. IsStillInUse e → HasPinnedMapping out)

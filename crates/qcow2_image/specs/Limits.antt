@@ -16,7 +16,7 @@ use Rattle.qcow2_alloc.specs.declared.error.ImageError.TheVariants.{Limit}
 use Rattle.qcow2_image.specs.BehindHeader.{PreservesHeaderCluster}
 use Rattle.qcow2_image.specs.Found.{l1_index_of}
 use Rattle.qcow2_image.specs.Image.{IsSameImage}
-use Rattle.qcow2_image.specs.ImageInvariant.{abstract_of}
+use Rattle.qcow2_image.specs.ImageInvariant.{abstract_of, Mappings}
 use Rattle.qcow2_image.specs.InternalSteps.{InternalFillingStep, InternalStep, pending_with_listed}
 use Rattle.qcow2_image.specs.declared.image.Qcow2.{Qcow2}
 use Rattle.qcow2_image.specs.declared.prepared.Prepared.{Prepared}
@@ -58,18 +58,18 @@ module _ {S F : Type 0} where
 
     module _ (backing : F → BackingView) where
       -- A part of a call passed a limit at a state that guests cannot tell from the old one. What is pending differs only by more clusters that wait to be freed.
-      abbrev pub IsLimitedInternal : Pending → ℕ → Qcow2 S F → List (Option Prepared) → Type 0
+      abbrev pub IsLimitedInternal : Pending → ℕ → Qcow2 S F → Mappings → Type 0
       IsLimitedInternal p end old out = IsLimitedIn (λ mid. InternalStep view backing p (pending_with_listed p old mid) old mid out) end old
 
-      abbrev pub IsLimitedTaking : Pending → ℕ → Qcow2 S F → List (Option Prepared) → Type 0
+      abbrev pub IsLimitedTaking : Pending → ℕ → Qcow2 S F → Mappings → Type 0
       IsLimitedTaking p end old out = IsLimitedIn (λ mid. InternalFillingStep view backing p (pending_with_listed p old mid) old mid out) end old
 
       -- A call passed a limit at a sound state that it led to, with at most this many mapping slots. It is the same image, with the same cluster size and the same surplus of each cluster, and no cluster was leaked. The mapping of every guest cluster that is given no byte is the same.
-      pub record IsLimitedWith (most : ℕ) (given : List GivenBytes) (end : ℕ) (old : Qcow2 S F) (out : List (Option Prepared)) : Type 0 where
+      pub record IsLimitedWith (most : ℕ) (given : List GivenBytes) (end : ℕ) (old : Qcow2 S F) (out : Mappings) : Type 0 where
         pub mid : Qcow2 S F
-        pub now : List (Option Prepared)
+        pub now : Mappings
         pub before : GoesTo old mid
-        pub few : length now ≤ most
+        pub few : length now.slots ≤ most
         pub works : EffectOnSound (abstract_of view backing old out) (abstract_of view backing mid now) given []
         pub sound : (abstract_of view backing mid now).is_sound
         pub offset : ℕ
@@ -77,9 +77,9 @@ module _ {S F : Type 0} where
         pub limit : (4194304 ≤ l1_index_of mid.file.header.fields offset) ⊎ LacksPlace offset mid
 
       -- The state has the mappings that are prepared.
-      abbrev pub IsLimitedAmong : List GivenBytes → ℕ → Qcow2 S F → List (Option Prepared) → Type 0
-      IsLimitedAmong given end old out = IsLimitedWith (length out) given end old out
+      abbrev pub IsLimitedAmong : List GivenBytes → ℕ → Qcow2 S F → Mappings → Type 0
+      IsLimitedAmong given end old out = IsLimitedWith (length out.slots) given end old out
 
       -- The state has at most one mapping more, which the call was making.
-      abbrev pub IsLimited : List GivenBytes → ℕ → Qcow2 S F → List (Option Prepared) → Type 0
-      IsLimited given end old out = IsLimitedWith (length out + 1) given end old out
+      abbrev pub IsLimited : List GivenBytes → ℕ → Qcow2 S F → Mappings → Type 0
+      IsLimited given end old out = IsLimitedWith (length out.slots + 1) given end old out

@@ -27,7 +27,7 @@ use Rattle.qcow2_image.specs.declared.image.Qcow2.{Qcow2}
 use Rattle.qcow2_image.specs.declared.prepared.Prepared.{Prepared}
 use Rattle.qcow2_image.specs.CallParts.{RefusedCall, InternalCall}
 use Rattle.qcow2_image.specs.Image.{leaked_in}
-use Rattle.qcow2_image.specs.ImageInvariant.{below_of, ImageInvariant}
+use Rattle.qcow2_image.specs.ImageInvariant.{below_of, ImageInvariant, Mappings}
 use Rattle.qcow2_image.specs.MovedTables.{MovesTables, CoversStay}
 use Rattle.qcow2_image.specs.InternalSteps.{InternalStep, ListGrows, pending_with_listed}
 
@@ -72,7 +72,7 @@ module _ {S F : Type 0} where
 
     module _ (backing : F → BackingView) where
       -- Guests don't see the step, though the L1 table may move. The image is sound again, and a stop at any moment is as safe as before.
-      pub record InternalMove (p p' : Pending) (old new : Qcow2 S F) (out : List (Option Prepared)) : Type 0 where
+      pub record InternalMove (p p' : Pending) (old new : Qcow2 S F) (out : Mappings) : Type 0 where
         pub sound : ImageInvariant view backing p' new out
         pub safe_step : SafeStep (state_in view old.file p) (state_in view new.file p') nothing_given []
         pub since : SafeThroughout (view_in view old.file) (view_in view new.file) (known_in view old.file) nothing_given []
@@ -93,35 +93,35 @@ module _ {S F : Type 0} where
         pub leaks : leaked_in new ≡ leaked_in old
 
       -- What a refused part leaves: a sound image with more clusters to free at most, or one that is about to fail.
-      abbrev pub RefusedMove : Pending → Qcow2 S F → Qcow2 S F → List (Option Prepared) → ImageError → Type 0
+      abbrev pub RefusedMove : Pending → Qcow2 S F → Qcow2 S F → Mappings → ImageError → Type 0
       RefusedMove p old new out e = InternalStep view backing p (pending_with_listed p old new) old new out ⊎ InterruptedMove old new e
 
       -- A longer table is written to its clusters.
-      abbrev pub PlacesTable : Pending → Qcow2 S F → Qcow2 S F → List (Option Prepared) → EntryTableView → ℕ → Result (Unit {0}) ImageError → Type 0
+      abbrev pub PlacesTable : Pending → Qcow2 S F → Qcow2 S F → Mappings → EntryTableView → ℕ → Result (Unit {0}) ImageError → Type 0
       PlacesTable p old new out t cluster (Ok _) = InternalStep view backing p p old new out × StandsWhole new t cluster
       PlacesTable p old new out t cluster (Err e) = InternalStep view backing p p old new out
 
       -- The header points to the longer table instead of the old one. If this is refused, its clusters are still those of a new table, or a fault ended the part.
-      abbrev pub NamesTable : Pending → Qcow2 S F → Qcow2 S F → List (Option Prepared) → EntryTableView → ℕ → Result (Unit {0}) ImageError → Type 0
+      abbrev pub NamesTable : Pending → Qcow2 S F → Qcow2 S F → Mappings → EntryTableView → ℕ → Result (Unit {0}) ImageError → Type 0
       NamesTable p old new out t cluster (Ok _) = InternalMove (with_table p t cluster) (without_l1 p old.file.header.fields) old new out
       NamesTable p old new out t cluster (Err e) = InternalStep view backing (with_table p t cluster) (with_table p t cluster) old new out ⊎ InterruptedMove old new e
 
       -- The header points to a longer table in clusters that were allocated for it. The list of clusters to free may change too.
-      abbrev pub NamesTaken : Pending → Qcow2 S F → Qcow2 S F → List (Option Prepared) → EntryTableView → ClustersToFreeEntry → Result (Unit {0}) ImageError → Type 0
+      abbrev pub NamesTaken : Pending → Qcow2 S F → Qcow2 S F → Mappings → EntryTableView → ClustersToFreeEntry → Result (Unit {0}) ImageError → Type 0
       NamesTaken p old new out t taken result =
           (named : Qcow2 S F) × (new ≡ record named { file = record named.file { free_list = new.file.free_list } }) × (named.file.free_list ≡ old.file.free_list) × NamesTable p old named out t taken.first_cluster result
 
       -- A longer table gets its clusters, and replaces the L1 table.
-      abbrev pub AllocatesTable : Pending → Qcow2 S F → Qcow2 S F → List (Option Prepared) → Result (Unit {0}) ImageError → Type 0
+      abbrev pub AllocatesTable : Pending → Qcow2 S F → Qcow2 S F → Mappings → Result (Unit {0}) ImageError → Type 0
       AllocatesTable p old new out (Ok _) = InternalMove p (without_l1 (pending_with_listed p old new) old.file.header.fields) old new out
       AllocatesTable p old new out (Err e) = RefusedMove p old new out e
 
       -- A longer table replaces the L1 table, and the clusters of the old one wait to be freed.
-      abbrev pub Lengthens : Pending → Qcow2 S F → Qcow2 S F → List (Option Prepared) → Result (Unit {0}) ImageError → Type 0
+      abbrev pub Lengthens : Pending → Qcow2 S F → Qcow2 S F → Mappings → Result (Unit {0}) ImageError → Type 0
       Lengthens p old new out (Ok _) = InternalMove p (pending_with_listed p old new) old new out
       Lengthens p old new out (Err e) = RefusedMove p old new out e
 
       -- A part of a call makes sure that there is an L1 entry. Guests don't see it.
-      abbrev pub MakesEntry : Qcow2 S F → Qcow2 S F → List (Option Prepared) → Result (Unit {0}) ImageError → Type 0
+      abbrev pub MakesEntry : Qcow2 S F → Qcow2 S F → Mappings → Result (Unit {0}) ImageError → Type 0
       MakesEntry old new out (Ok _) = InternalCall view backing old new out
       MakesEntry old new out (Err e) = RefusedCall view backing old new out e

@@ -1,4 +1,5 @@
 -- The causes of refusals on a sound image: a fault, a limit, and causes in the image or in its prepared mappings.
+use Rattle.qcow2_image.specs.ImageInvariant.{Mappings}
 use Rattle.std.specs.Prelude.{ℕ, ◌+◌, ◌-◌, ◌*◌, ◌/◌, ◌^◌, ◌<◌, ◌≤◌, ◌≡◌, ◌⊎◌, ◌&&◌, Bool, false, List, Option, None}
 use Rattle.image_access.specs.declared.storage.PreallocateMode.{PreallocateMode}
 use Rattle.image_access.specs.declared.storage.PreallocateMode.TheVariants as Mode
@@ -93,7 +94,7 @@ MayFailCopying new kind e = MayFailOn new e ⊎ ((e ≡ I.OutdatedMapping) × (k
 -- ---- lookups, reads and puts on a sound image, whatever is prepared
 
 -- The cache is full of L2 tables that prepared mappings pin.
-abbrev pub IsCacheHeld : {S F : Type 0} → Qcow2 S F → List (Option Prepared) → Type 0
+abbrev pub IsCacheHeld : {S F : Type 0} → Qcow2 S F → Mappings → Type 0
 IsCacheHeld image out = AreAllPinned image.file.caches × HasPinnedMapping out
 
 -- Why a lookup is refused: a fault; or 8, if the cache is full of pinned tables.
@@ -113,7 +114,7 @@ abbrev pub MayFailSpecial : (held : Type 0) → (offset : ℕ) → ImageError �
 MayFailSpecial held offset e = MayFailLooking held e ⊎ ((e ≡ I.Compressed) ⊎ (e ≡ I.NotCompressed offset))
 
 -- Why a read is refused: as a lookup; or 7, if some guest cluster that the range touches is compressed. It is refused 8 only if a mapping is pinned.
-abbrev pub MayFailReadingRange : List (Option Prepared) → (from to : ℕ) → HeaderFields → Bytes → ImageError → Type 0
+abbrev pub MayFailReadingRange : Mappings → (from to : ℕ) → HeaderFields → Bytes → ImageError → Type 0
 MayFailReadingRange out from to h known e = MayFailLooking (HasPinnedMapping out) e ⊎ ((e ≡ I.Compressed) × HasCompressedIn from to h known)
 
 -- Why a put is refused: a fault. A put into an existing mapping can also be refused as a range that was looked up before, and with 20 if its host offset passes 64 bits.
@@ -127,6 +128,6 @@ abbrev pub MayFailAllocating : (held kept compressed far : Type 0) → ImageErro
 MayFailAllocating held kept compressed far e = MayFailAlone compressed far e ⊎ (((e ≡ I.InUse) × held) ⊎ ((e ≡ I.TablePrepared) × kept))
 
 -- Why filling the range past the end of a disk is refused: as a call that allocates, with 7 only if bytes of a compressed cluster would have to be copied, and 8 and 9 only if a mapping is pinned. Zero clusters are also refused below version 3 (3).
-abbrev pub MayFailGrowing : List (Option Prepared) → PreallocateMode → (from to : ℕ) → HeaderFields → Bytes → ImageError → Type 0
+abbrev pub MayFailGrowing : Mappings → PreallocateMode → (from to : ℕ) → HeaderFields → Bytes → ImageError → Type 0
 MayFailGrowing out mode from to h known e =
     MayFailAllocating (HasPinnedMapping out) (HasPinnedMapping out) (HasCompressedIn from (copied_end (cluster_size h) from to mode) h known) ⊥ e ⊎ ((e ≡ I.Version) × ((mode ≡ Mode.Zero) × (h.version < 3)))

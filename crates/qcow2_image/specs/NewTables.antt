@@ -1,4 +1,5 @@
 -- Making an L2 table: its bytes are written to a new cluster, it is put into the cache, and an L1 entry names it.
+use Rattle.qcow2_image.specs.ImageInvariant.{Mappings}
 use Rattle.std.specs.Prelude.{ℕ, ◌+◌, ◌*◌, ◌/◌, ◌%◌, ◌≡◌, ◌≢◌, ◌⊎◌, List, Option, Some, Result, Ok, Err}
 use Rattle.image_access.specs.Backing.{BackingView}
 use Rattle.image_access.specs.Moments.{StorageView}
@@ -76,31 +77,31 @@ module _ {S F : Type 0} (view : S → StorageView) where
 
   module _ (backing : F → BackingView) where
     -- Everything is written that must be on the storage before an L1 entry is.
-    abbrev pub Stores : Pending → Qcow2 S F → Qcow2 S F → List (Option Prepared) → Result (Unit {0}) ImageError → Type 0
+    abbrev pub Stores : Pending → Qcow2 S F → Qcow2 S F → Mappings → Result (Unit {0}) ImageError → Type 0
     Stores p old new out (Ok _) = InternalStep view backing p p old new out × IsStored new
     Stores p old new out (Err e) = InternalStep view backing p p old new out
 
     -- The bytes of a table are written to its cluster, and the table is put into the cache.
-    abbrev pub PlacesNewTable : Pending → Qcow2 S F → Qcow2 S F → List (Option Prepared) → ℕ → List ℕ → Result (Unit {0}) ImageError → Type 0
+    abbrev pub PlacesNewTable : Pending → Qcow2 S F → Qcow2 S F → Mappings → ℕ → List ℕ → Result (Unit {0}) ImageError → Type 0
     PlacesNewTable p old new out cluster bytes (Ok _) = InternalStep view backing p p old new out × StandsReady new cluster bytes
     PlacesNewTable p old new out cluster bytes (Err e) = InternalStep view backing p p old new out
 
     -- The L1 entry of a new table is written.
-    abbrev pub NamesNew : Pending → Qcow2 S F → Qcow2 S F → List (Option Prepared) → ℕ → ℕ → Result (Unit {0}) ImageError → Type 0
+    abbrev pub NamesNew : Pending → Qcow2 S F → Qcow2 S F → Mappings → ℕ → ℕ → Result (Unit {0}) ImageError → Type 0
     NamesNew p old new out index cluster (Ok _) = InternalStep view backing (with_new_tables p (one_at cluster)) (replacing p old index) old new out × NamesCopied new index cluster
     NamesNew p old new out index cluster (Err e) = InterruptedPart view backing old new e
 
     -- The table is written, and then its L1 entry. If this is refused, the cluster is still that of a new table, or a fault ended the part.
-    abbrev pub WritesNew : Pending → Qcow2 S F → Qcow2 S F → List (Option Prepared) → ℕ → ℕ → Result (Unit {0}) ImageError → Type 0
+    abbrev pub WritesNew : Pending → Qcow2 S F → Qcow2 S F → Mappings → ℕ → ℕ → Result (Unit {0}) ImageError → Type 0
     WritesNew p old new out index cluster (Ok _) = InternalStep view backing (with_new_tables p (one_at cluster)) (replacing p old index) old new out × NamesCopied new index cluster
     WritesNew p old new out index cluster (Err e) = InternalStep view backing (with_new_tables p (one_at cluster)) (with_new_tables p (one_at cluster)) old new out ⊎ InterruptedPart view backing old new e
 
     -- A new table gets a cluster and an L1 entry.
-    abbrev pub EntersTable : Pending → Qcow2 S F → Qcow2 S F → List (Option Prepared) → ℕ → Result ℕ ImageError → Type 0
+    abbrev pub EntersTable : Pending → Qcow2 S F → Qcow2 S F → Mappings → ℕ → Result ℕ ImageError → Type 0
     EntersTable p old new out index (Ok cluster) = InternalStep view backing p (replacing (pending_with_listed p old new) old index) old new out × NamesCopied new index cluster
     EntersTable p old new out index (Err e) = RefusedStep view backing p old new out e
 
     -- The table of the L1 entry is in this cluster, and the entry is marked copied.
-    abbrev pub OwnsTable : Pending → Qcow2 S F → Qcow2 S F → List (Option Prepared) → ℕ → Result ℕ ImageError → Type 0
+    abbrev pub OwnsTable : Pending → Qcow2 S F → Qcow2 S F → Mappings → ℕ → Result ℕ ImageError → Type 0
     OwnsTable p old new out index (Ok cluster) = InternalStep view backing p (pending_with_listed p old new) old new out × NamesCopied new index cluster
     OwnsTable p old new out index (Err e) = RefusedStep view backing p old new out e

@@ -11,7 +11,7 @@ use Rattle.qcow2_image.specs.declared.prepared.CommitRefused.{CommitRefused}
 use Rattle.qcow2_image.specs.declared.prepared.Prepared.{Prepared}
 use Rattle.qcow2_image.specs.CallParts.{HasChanged, IsWriteOutcome, InternalCall}
 use Rattle.qcow2_image.specs.Calls.{reason_of}
-use Rattle.qcow2_image.specs.ImageInvariant.{abstract_of}
+use Rattle.qcow2_image.specs.ImageInvariant.{abstract_of, Mappings}
 use Rattle.qcow2_image.specs.Prepared.{offset_of, table_of}
 use Rattle.qcow2_image.specs.Unwritten.{LooksQuietly}
 use Rattle.qcow2_alloc.specs.ImageStorage.{changes_of}
@@ -76,7 +76,7 @@ module _ {S F : Type 0} (view : S → StorageView) (old new : Qcow2 S F) where
 pub record PutsOnce {S F : Type 0} (view : S → StorageView) (backing : F → BackingView) (p : Prepared) (at : ℕ) (bytes : List ℕ) (old new : Qcow2 S F) (result : Result (Unit {0}) ImageError) : Type 0 where
   pub before : Qcow2 S F
   pub honest : (view_in view old.file).is_honest → (view_in view before.file).is_honest
-  pub unseen : (out : List (Option Prepared)) → (abstract_of view backing old out).is_sound → InternalCall view backing old before out
+  pub unseen : (out : Mappings) → (abstract_of view backing old out).is_sound → InternalCall view backing old before out
   pub quiet : LooksQuietly view (p.guest + at) old before
   pub idle : IsSome (table_of p) → (storage_of_image before ≡ storage_of_image old) × (changes_of before.file.storage ≡ changes_of old.file.storage)
   pub time : (view_in view before.file).is_honest → EachMomentSince (view_in view before.file) (view_in view new.file) (IsLeftBy (view_in view new.file))

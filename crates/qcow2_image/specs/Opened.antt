@@ -25,7 +25,7 @@ use Rattle.qcow2_image.specs.declared.image.Missing.{Missing}
 use Rattle.qcow2_image.specs.declared.image.Missing.TheVariants as M
 use Rattle.qcow2_image.specs.declared.image.Qcow2.{Qcow2}
 use Rattle.qcow2_image.specs.Image.{storage_of_image}
-use Rattle.qcow2_image.specs.ImageInvariant.{abstract_of, HasL1Table}
+use Rattle.qcow2_image.specs.ImageInvariant.{abstract_of, HasL1Table, in_image}
 
 -- At every moment since, and now, a stop is as safe as before: a consistent image stays consistent and shows the same disk.
 abbrev pub IsKeptSince : StorageView → StorageView → Type 0
@@ -129,9 +129,9 @@ module _ {S F : Type 0} (view : S → StorageView) (backing : F → BackingView)
 
   -- An image that was just opened from these bytes: it is sound, no table is modified, every surplus is the one in these bytes, and no cluster was leaked yet.
   pub record IsOpenedFrom (b : Bytes) (image : Qcow2 S F) : Type 0 where
-    pub opened : IsOpened (abstract_of view backing image [])
-    pub surplus : (abstract_of view backing image []).surplus ≡ surplus_of (header b) b
-    pub leaks : (abstract_of view backing image []).leaked ≡ 0
+    pub opened : IsOpened (abstract_of view backing image (in_image []))
+    pub surplus : (abstract_of view backing image (in_image [])).surplus ≡ surplus_of (header b) b
+    pub leaks : (abstract_of view backing image (in_image [])).leaked ≡ 0
 
   -- Opening a consistent image on an honest storage returns an image that was just opened from its bytes.
   abbrev pub Opens : StorageView → Qcow2 S F → Type 0

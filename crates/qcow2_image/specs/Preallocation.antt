@@ -1,4 +1,5 @@
 -- Preallocation: zeros are put past the end of a disk before its size grows.
+use Rattle.qcow2_image.specs.declared.mapping.Place.{Place}
 use Rattle.std.specs.Prelude.{ℕ, ◌+◌, ◌-◌, ◌*◌, ◌%◌, ◌^◌, ◌≡◌, ◌⊎◌, ◌<◌, ◌≤◌, List, [], ◌∷◌, length, replicate, Option, Result, Ok, Err, None, true, false, IsSome, IsTrue, if◌then◌else◌}
 use Rattle.image_access.specs.Backing.{BackingView}
 use Rattle.image_access.specs.Moments.{StorageView}
@@ -25,7 +26,7 @@ use Rattle.qcow2_image.specs.declared.prepared.Prepared.{Prepared}
 use Rattle.qcow2_image.specs.CallParts.{AreCopied, StaysBeside}
 use Rattle.qcow2_image.specs.Clearing.{IsUnderMapping, setting_of}
 use Rattle.qcow2_image.specs.Image.{size_of, has_noted_change}
-use Rattle.qcow2_image.specs.ImageInvariant.{ImageInvariant, abstract_of, disk_of, meaning, pending_in}
+use Rattle.qcow2_image.specs.ImageInvariant.{ImageInvariant, abstract_of, disk_of, meaning, pending_in, Mappings}
 use Rattle.qcow2_image.specs.L1Entries.{ReachingStays}
 use Rattle.qcow2_image.specs.Limits.{IsLimited}
 use Rattle.qcow2_image.specs.MovedTables.{CoversStay, MovesTables}
@@ -45,19 +46,19 @@ abbrev pub filled_to : ℕ → Disk → ℕ → PreallocateMode → Disk
 filled_to size_of_cluster d size mode = if shows_old mode then d else zeroed_between d d.size (rounded_up size_of_cluster size)
 
 -- A mapping is pinned in the L2 table of some offset of the range.
-pub record IsUnderMappingIn (h : HeaderFields) (from to : ℕ) (out : List (Option Prepared)) : Type 0 where
+pub record IsUnderMappingIn (h : HeaderFields) (from to : ℕ) (out : Mappings) : Type 0 where
   pub offset : ℕ
   pub low : from ≤ offset
   pub high : offset < to
   pub under : IsUnderMapping h offset out
 
 -- In a range that is filled, no mapping is pinned in the L2 table of a guest cluster whose entry must change. An entry must change if it is to be a zero entry (from `first` on), or is not copied data.
-abbrev pub ChangesFree : (size_of_cluster first from to : ℕ) → HeaderFields → Bytes → List (Option Prepared) → Type 0
+abbrev pub ChangesFree : (size_of_cluster first from to : ℕ) → HeaderFields → Bytes → Mappings → Type 0
 ChangesFree size_of_cluster first from to h known out =
     (g : ℕ) → Touches size_of_cluster from to g → (first ≤ g * size_of_cluster) ⊎ (is_copied_data (cover h known g) ≡ false) → ¬ IsUnderMapping h (g * size_of_cluster) out
 
 -- The range past the end of a growing disk, if the mode fills it.
-abbrev pub GrownFree : PreallocateMode → (old size : ℕ) → HeaderFields → Bytes → List (Option Prepared) → Type 0
+abbrev pub GrownFree : PreallocateMode → (old size : ℕ) → HeaderFields → Bytes → Mappings → Type 0
 GrownFree mode old size h known out = shows_old mode ≡ false → ChangesFree (cluster_size h) (first_zeros (cluster_size h) old size mode) old (rounded_up (cluster_size h) size) h known out
 
 -- The two offsets are cluster boundaries.
@@ -83,49 +84,49 @@ pub record WritesZeros (count : ℕ) (writes : ZeroWrites) : Type 0 where
 
 module _ {S F : Type 0} (view : S → StorageView) (backing : F → BackingView) where
   -- A part of a call puts zeros from one offset up to another.
-  pub record FillsPart (first from to : ℕ) (old new : Qcow2 S F) (out : List (Option Prepared)) : Type 0 where
+  pub record FillsPart (first from to : ℕ) (old new : Qcow2 S F) (out : Mappings) : Type 0 where
     pub works : EffectOnSound (abstract_of view backing old out) (abstract_of view backing new out) (given_by_zeros from to ∷ []) []
     pub sound : ImageInvariant view backing (pending_in view backing new out) new out
-    pub shows : guest_of (abstract_of view backing new out) ≡ with_disk (guest_of (abstract_of view backing old out)) (zeroed_between (disk_of view backing old) from to)
+    pub shows : guest_of (abstract_of view backing new out) ≡ with_disk (guest_of (abstract_of view backing old out)) (zeroed_between (disk_of view backing out.place old) from to)
     pub header : MovesTables old.file.header.fields new.file.header.fields
     pub l1_table : ReachingStays to old.file.header.fields new.file.header.fields
     pub covers : FilledCovers (cluster_size old.file.header.fields) first from to old.file.header.fields (known_in view old.file) new.file.header.fields (known_in view new.file)
     pub free : ChangesFree (cluster_size old.file.header.fields) first from to old.file.header.fields (known_in view old.file) out
 
   -- The part was refused half-way: the image is sound, and any of these bytes may be zeros.
-  pub record FillsSome (from to : ℕ) (old new : Qcow2 S F) (out : List (Option Prepared)) : Type 0 where
+  pub record FillsSome (from to : ℕ) (old new : Qcow2 S F) (out : Mappings) : Type 0 where
     pub works : EffectOnSound (abstract_of view backing old out) (abstract_of view backing new out) (given_by_zeros from to ∷ []) []
     pub sound : ImageInvariant view backing (pending_in view backing new out) new out
     pub now : Disk
-    pub may : MayBeZero from to (disk_of view backing old) now
+    pub may : MayBeZero from to (disk_of view backing out.place old) now
     pub shows : guest_of (abstract_of view backing new out) ≡ with_disk (guest_of (abstract_of view backing old out)) now
 
   -- A fault ended the part: once the image is marked as failed, a stop is as safe as before, with these values given.
-  pub record InterruptedGiving (given : List GivenBytes) (old new : Qcow2 S F) (out : List (Option Prepared)) (e : ImageError) : Type 0 where
+  pub record InterruptedGiving (given : List GivenBytes) (old new : Qcow2 S F) (out : Mappings) (e : ImageError) : Type 0 where
     pub fault : IsFaultOfTables e
     pub recorded : e ≡ I.Memory → IsTrue (has_noted_change new)
     pub works : EffectOnSound (abstract_of view backing old out) (abstract_of view backing (record new { is_failed = true }) out) given []
 
   -- What a refused part leaves. It is refused 9 only if a mapping is pinned in an L2 table of the range, and with a limit only if there was no room.
-  pub record RefusedFill (from to : ℕ) (old new : Qcow2 S F) (out : List (Option Prepared)) (e : ImageError) : Type 0 where
+  pub record RefusedFill (from to : ℕ) (old new : Qcow2 S F) (out : Mappings) (e : ImageError) : Type 0 where
     pub left : FillsSome from to old new out ⊎ InterruptedGiving (given_by_zeros from to ∷ []) old new out e
     pub taken : e ≡ I.TablePrepared → IsUnderMappingIn old.file.header.fields from to out
     pub limit : e ≡ I.Limit → IsLimited view backing (given_by_zeros from to ∷ []) to old out
 
-  abbrev pub FillsOrRefuses : (first from to : ℕ) → Qcow2 S F → Qcow2 S F → List (Option Prepared) → Result (Unit {0}) ImageError → Type 0
+  abbrev pub FillsOrRefuses : (first from to : ℕ) → Qcow2 S F → Qcow2 S F → Mappings → Result (Unit {0}) ImageError → Type 0
   FillsOrRefuses first from to old new out (Ok _) = FillsPart first from to old new out
   FillsOrRefuses first from to old new out (Err e) = RefusedFill from to old new out e
 
   -- The range is filled up to an offset, or the part was refused.
-  abbrev pub FillsFirst : (first from to : ℕ) → Qcow2 S F → Qcow2 S F → List (Option Prepared) → Result ℕ ImageError → Type 0
+  abbrev pub FillsFirst : (first from to : ℕ) → Qcow2 S F → Qcow2 S F → Mappings → Result ℕ ImageError → Type 0
   FillsFirst first from to old new out (Ok next) = FillsPart first from next old new out
   FillsFirst first from to old new out (Err e) = RefusedFill from to old new out e
 
   -- A prepared mapping is committed, and its slot is empty.
-  pub record CommitsWhole (old new : Qcow2 S F) (out : List (Option Prepared)) (k : ℕ) (p : Prepared) (free : List (Option Prepared)) : Type 0 where
-    pub works : EffectOnSound (abstract_of view backing old out) (abstract_of view backing new free) (given_by_commit (abstract_of view backing old out).setting.cluster_size (guest_of (abstract_of view backing old out)).disk (meaning view backing old p) ∷ []) []
+  pub record CommitsWhole (old new : Qcow2 S F) (out : Mappings) (k : ℕ) (p : Prepared) (free : Mappings) : Type 0 where
+    pub works : EffectOnSound (abstract_of view backing old out) (abstract_of view backing new free) (given_by_commit (abstract_of view backing old out).setting.cluster_size (guest_of (abstract_of view backing old out)).disk (meaning view backing out.place old p) ∷ []) []
     pub sound : ImageInvariant view backing (pending_in view backing new free) new free
-    pub shows : guest_of (abstract_of view backing new free) ≡ with_slot (with_disk (guest_of (abstract_of view backing old out)) (committed (guest_of (abstract_of view backing old out)).disk (meaning view backing old p))) k None
+    pub shows : guest_of (abstract_of view backing new free) ≡ with_slot (with_disk (guest_of (abstract_of view backing old out)) (committed (guest_of (abstract_of view backing old out)).disk (meaning view backing out.place old p))) k None
     pub beside : StaysBeside view p.guest (p.guest + p.length) old new
     pub copied : IsSome p.table → AreCopied view p.guest (p.guest + p.length) new
     pub placed : IsSome p.table → AreDataAt new.file.header.fields (known_in view new.file) true p.guest p.offset p.length
@@ -134,33 +135,33 @@ module _ {S F : Type 0} (view : S → StorageView) (backing : F → BackingView)
 
   -- ---- past the end of a disk that grows
 
-  abbrev pub all_given_by_growing : Qcow2 S F → ℕ → PreallocateMode → List GivenBytes
-  all_given_by_growing image size mode = given_by_grow (setting_of view backing image) (disk_of view backing image) size mode
+  abbrev pub all_given_by_growing : Place → Qcow2 S F → ℕ → PreallocateMode → List GivenBytes
+  all_given_by_growing place image size mode = given_by_grow (setting_of view backing image) (disk_of view backing place image) size mode
 
   -- There are zeros past the end of the disk, as the mode asks for. The size is the old one.
-  pub record FillsGrown (size : ℕ) (mode : PreallocateMode) (old new : Qcow2 S F) (out : List (Option Prepared)) : Type 0 where
-    pub works : EffectOnSound (abstract_of view backing old out) (abstract_of view backing new out) (all_given_by_growing old size mode) []
+  pub record FillsGrown (size : ℕ) (mode : PreallocateMode) (old new : Qcow2 S F) (out : Mappings) : Type 0 where
+    pub works : EffectOnSound (abstract_of view backing old out) (abstract_of view backing new out) (all_given_by_growing out.place old size mode) []
     pub sound : ImageInvariant view backing (pending_in view backing new out) new out
-    pub shows : guest_of (abstract_of view backing new out) ≡ with_disk (guest_of (abstract_of view backing old out)) (filled_to (cluster_size old.file.header.fields) (disk_of view backing old) size mode)
+    pub shows : guest_of (abstract_of view backing new out) ≡ with_disk (guest_of (abstract_of view backing old out)) (filled_to (cluster_size old.file.header.fields) (disk_of view backing out.place old) size mode)
     pub header : MovesTables old.file.header.fields new.file.header.fields
     pub l1_table : ReachingStays (rounded_up (cluster_size old.file.header.fields) size) old.file.header.fields new.file.header.fields
     pub covers : GrownCovers mode (size_of old) size old.file.header.fields (known_in view old.file) new.file.header.fields (known_in view new.file)
     pub free : GrownFree mode (size_of old) size old.file.header.fields (known_in view old.file) out
 
   -- The part was refused: each byte past the end is the same or zero, and all others are the same.
-  pub record FillsGrownInPart (size : ℕ) (mode : PreallocateMode) (old new : Qcow2 S F) (out : List (Option Prepared)) : Type 0 where
-    pub works : EffectOnSound (abstract_of view backing old out) (abstract_of view backing new out) (all_given_by_growing old size mode) []
+  pub record FillsGrownInPart (size : ℕ) (mode : PreallocateMode) (old new : Qcow2 S F) (out : Mappings) : Type 0 where
+    pub works : EffectOnSound (abstract_of view backing old out) (abstract_of view backing new out) (all_given_by_growing out.place old size mode) []
     pub sound : ImageInvariant view backing (pending_in view backing new out) new out
     pub now : Disk
-    pub may : MayGrow (setting_of view backing old) (disk_of view backing old) size mode now
+    pub may : MayGrow (setting_of view backing old) (disk_of view backing out.place old) size mode now
     pub shows : guest_of (abstract_of view backing new out) ≡ with_disk (guest_of (abstract_of view backing old out)) now
 
   -- What a refused part leaves. It is refused 9 only if the mode asks for zeros and a mapping is pinned in an L2 table past the end, and with a limit only if there was no room.
-  pub record RefusedGrown (size : ℕ) (mode : PreallocateMode) (old new : Qcow2 S F) (out : List (Option Prepared)) (e : ImageError) : Type 0 where
-    pub left : FillsGrownInPart size mode old new out ⊎ InterruptedGiving (all_given_by_growing old size mode) old new out e
-    pub taken : e ≡ I.TablePrepared → (shows_old mode ≡ false) × IsUnderMappingIn old.file.header.fields (disk_of view backing old).size (rounded_up (cluster_size old.file.header.fields) size) out
-    pub limit : e ≡ I.Limit → IsLimited view backing (all_given_by_growing old size mode) (rounded_up (cluster_size old.file.header.fields) size) old out
+  pub record RefusedGrown (size : ℕ) (mode : PreallocateMode) (old new : Qcow2 S F) (out : Mappings) (e : ImageError) : Type 0 where
+    pub left : FillsGrownInPart size mode old new out ⊎ InterruptedGiving (all_given_by_growing out.place old size mode) old new out e
+    pub taken : e ≡ I.TablePrepared → (shows_old mode ≡ false) × IsUnderMappingIn old.file.header.fields (disk_of view backing out.place old).size (rounded_up (cluster_size old.file.header.fields) size) out
+    pub limit : e ≡ I.Limit → IsLimited view backing (all_given_by_growing out.place old size mode) (rounded_up (cluster_size old.file.header.fields) size) old out
 
-  abbrev pub FillsGrownOrRefuses : ℕ → PreallocateMode → Qcow2 S F → Qcow2 S F → List (Option Prepared) → Result (Unit {0}) ImageError → Type 0
+  abbrev pub FillsGrownOrRefuses : ℕ → PreallocateMode → Qcow2 S F → Qcow2 S F → Mappings → Result (Unit {0}) ImageError → Type 0
   FillsGrownOrRefuses size mode old new out (Ok _) = FillsGrown size mode old new out
   FillsGrownOrRefuses size mode old new out (Err e) = RefusedGrown size mode old new out e

@@ -1,4 +1,5 @@
 -- What a prepare returns, in terms of the known contents before it.
+use Rattle.qcow2_image.specs.ImageInvariant.{Mappings}
 use Rattle.std.specs.Prelude.{ℕ, ◌+◌, ◌-◌, ◌*◌, ◌/◌, ◌%◌, ◌<◌, ◌≤◌, ◌≡◌, ◌↔◌, ◌⊎◌, true, false, List, slice_get, Option, Some, None, IsNone, IsSome, IsTrue}
 use Rattle.qcow2_metadata.specs.Bytes.{Bytes}
 use Rattle.qcow2_metadata.specs.Header.{cluster_size}
@@ -51,10 +52,10 @@ module _ (h : HeaderFields) (known : Bytes) (offset : ℕ) where
         → ((offset_of p + i) % cluster_size h ≡ (offset + i) % cluster_size h) × (IsHeldAlone h' now ((offset_of p + i) / cluster_size h) ⊎ IsKeptBy h known ((offset + i) / cluster_size h) ((offset_of p + i) / cluster_size h))
 
   -- Why a prepare may be refused 9: another mapping is pinned in the same L2 table, and not all of the range may be written in place.
-  pub record IsTaken (n : ℕ) (out : List (Option Prepared)) : Type 0 where
+  pub record IsTaken (n : ℕ) (out : Mappings) : Type 0 where
     pub place : ℕ
     pub other : Prepared
-    pub is_out : slice_get out place ≡ Some (Some other)
+    pub is_out : slice_get out.slots place ≡ Some (Some other)
     pub keeps_table : IsSome (table_of other)
     pub same_table : l1_index_of h other.guest ≡ l1_index_of h offset
     pub never : (host : ℕ) → ¬ IsWritableAt n host

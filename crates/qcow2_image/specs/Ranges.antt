@@ -30,7 +30,7 @@ use Rattle.qcow2_image.specs.declared.prepared.Prepared.{Prepared}
 use Rattle.qcow2_image.specs.declared.prepared.ClusterMapping.{ClusterMapping}
 use Rattle.qcow2_image.specs.declared.prepared.ClusterMapping.TheVariants.{New}
 use Rattle.qcow2_image.specs.CallParts.{IsReadied, RefusedCall, InternalCall}
-use Rattle.qcow2_image.specs.ImageInvariant.{run_of, of_data, of_tables, to_free, new_data_in, new_data_by, over_all, is_entered, cluster_of, place_of, listed_run, disk_of, pending_in, abstract_of, meaning, IsClusterMappingAt, ImageInvariant}
+use Rattle.qcow2_image.specs.ImageInvariant.{run_of, of_data, of_tables, to_free, new_data_in, new_data_by, over_all, is_entered, cluster_of, place_of, listed_run, disk_of, pending_in, abstract_of, meaning, IsClusterMappingAt, ImageInvariant, Mappings, set_slot, contents_for}
 use Rattle.qcow2_image.specs.InternalSteps.{IsGained, RefusedFillingStep, InternalFillingStep, pending_with_listed}
 
 module _ (h : HeaderFields) where
@@ -110,28 +110,28 @@ module _ {S F : Type 0} (view : S → StorageView) where
 
   module _ (backing : F → BackingView) where
     -- Exactly this cluster is allocated for data; or it is past a limit, or in use.
-    abbrev pub AllocatesDataAt : Pending → Qcow2 S F → Qcow2 S F → List (Option Prepared) → ℕ → Result (Option ClustersToFreeEntry) ImageError → Type 0
+    abbrev pub AllocatesDataAt : Pending → Qcow2 S F → Qcow2 S F → Mappings → ℕ → Result (Option ClustersToFreeEntry) ImageError → Type 0
     AllocatesDataAt p old new out cluster (Ok (Some n)) = (n.first_cluster ≡ cluster) × (n.count ≡ 1) × (n.kind ≡ Kind.Data) × InternalFillingStep view backing p (with_new_data (pending_with_listed p old new) (run_of n)) old new out
     AllocatesDataAt p old new out cluster (Ok None) =
         InternalFillingStep view backing p (pending_with_listed p old new) old new out × (IsPastLimits old.file.header.fields cluster ⊎ (count new.file.header.fields (known_in view new.file) cluster ≢ 0))
     AllocatesDataAt p old new out cluster (Err e) = RefusedFillingStep view backing p old new out e
 
     -- Exactly this cluster is allocated, and filled with what the guest sees, except where the caller promised to overwrite; or it is past a limit, or in use.
-    abbrev pub GainsAt : Pending → Qcow2 S F → Qcow2 S F → List (Option Prepared) → ℕ → ℕ → Bool → L2Mapping → ℕ → Result (Option ClustersToFreeEntry) ImageError → Type 0
+    abbrev pub GainsAt : Pending → Qcow2 S F → Qcow2 S F → Mappings → ℕ → ℕ → Bool → L2Mapping → ℕ → Result (Option ClustersToFreeEntry) ImageError → Type 0
     GainsAt p old new out offset n overwrite mapping cluster (Ok (Some run)) = (run.first_cluster ≡ cluster) × IsGained view backing p old new out offset n overwrite mapping run
     GainsAt p old new out offset n overwrite mapping cluster (Ok None) =
         InternalFillingStep view backing p (pending_with_listed p old new) old new out × (IsPastLimits old.file.header.fields cluster ⊎ (count new.file.header.fields (known_in view new.file) cluster ≢ 0))
     GainsAt p old new out offset n overwrite mapping cluster (Err e) = RefusedFillingStep view backing p old new out e
 
     -- The mapping of a guest cluster to a host offset: a new cluster that no prepared mapping has yet.
-    pub record IsSharedAt (p : Pending) (old new : Qcow2 S F) (out : List (Option Prepared)) (offset n : ℕ) (overwrite : Bool) (mapping : L2Mapping) (host : ℕ) (cluster_mapping : ClusterMapping) : Type 0 where
+    pub record IsSharedAt (p : Pending) (old new : Qcow2 S F) (out : Mappings) (offset n : ℕ) (overwrite : Bool) (mapping : L2Mapping) (host : ℕ) (cluster_mapping : ClusterMapping) : Type 0 where
       pub run : ClustersToFreeEntry
       pub is : cluster_mapping ≡ New (run ∷ []) (listed_run (named_run old.file.header.fields.cluster_bits mapping))
       pub place : run.first_cluster * cluster_size old.file.header.fields ≡ host
       pub nameable : IsHostCluster old.file.header.fields.cluster_bits run.first_cluster
       pub gained : IsGained view backing p old new out offset n overwrite mapping run
 
-    abbrev pub ClusterMappingsAt : Pending → Qcow2 S F → Qcow2 S F → List (Option Prepared) → ℕ → ℕ → Bool → L2Mapping → ℕ → Result (Option ClusterMapping) ImageError → Type 0
+    abbrev pub ClusterMappingsAt : Pending → Qcow2 S F → Qcow2 S F → Mappings → ℕ → ℕ → Bool → L2Mapping → ℕ → Result (Option ClusterMapping) ImageError → Type 0
     ClusterMappingsAt p old new out offset n overwrite mapping host (Ok (Some cluster_mapping)) = IsSharedAt p old new out offset n overwrite mapping host cluster_mapping
     ClusterMappingsAt p old new out offset n overwrite mapping host (Ok None) =
         InternalFillingStep view backing p (pending_with_listed p old new) old new out
@@ -139,7 +139,7 @@ module _ {S F : Type 0} (view : S → StorageView) where
     ClusterMappingsAt p old new out offset n overwrite mapping host (Err e) = RefusedFillingStep view backing p old new out e
 
     -- The guest cluster after a mapping has a host cluster. If it is not in place, it has what the guest sees, except where the caller promised to overwrite.
-    pub record StandsBehind (old new : Qcow2 S F) (out : List (Option Prepared)) (n : ℕ) (overwrite : Bool) (p : Prepared) (cluster_mapping : ClusterMapping) : Type 0 where
+    pub record StandsBehind (old new : Qcow2 S F) (out : Mappings) (n : ℕ) (overwrite : Bool) (p : Prepared) (cluster_mapping : ClusterMapping) : Type 0 where
       pub pending : Pending
       pub image_step : InternalFillingStep view backing (pending_in view backing old out) pending old new out
       pub new_data : (c : ℕ) → pending.new_data c ≡ over_all new_data_by out c + new_data_in (cluster_mapping ∷ []) c
@@ -147,39 +147,39 @@ module _ {S F : Type 0} (view : S → StorageView) where
       pub old_tables : (c : ℕ) → pending.old_tables c ≡ to_free of_tables new.file.free_list c
       pub old_data : (c : ℕ) → pending.old_data c ≡ to_free of_data new.file.free_list c
       pub surplus : pending.surplus ≡ (pending_in view backing old out).surplus
-      pub stands : IsClusterMappingAt new.file.header.fields (known_in view new.file) (contents_in view new.file) p (length p.clusters.items) cluster_mapping
+      pub stands : IsClusterMappingAt new.file.header.fields out.place (known_in view new.file) (contents_in view new.file) p (length p.clusters.items) cluster_mapping
       pub filled : (o : ℕ) → o / cluster_size new.file.header.fields ≡ cluster_of new.file.header.fields p + length p.clusters.items → IsTrue (is_entered cluster_mapping)
-          → (overwrite && is_within p.guest (min n (p.length + cluster_size new.file.header.fields)) o ≡ false) → known_byte (contents_in view new.file (place_of new.file.header.fields p o)) ≡ (disk_of view backing old).value o
+          → (overwrite && is_within p.guest (min n (p.length + cluster_size new.file.header.fields)) o ≡ false) → known_byte (contents_for view backing out.place new (place_of new.file.header.fields p o)) ≡ (disk_of view backing out.place old).value o
 
     -- The mapping of the next guest cluster is found; or there can be none, and nothing changed; or the part was refused.
-    abbrev pub FindsBehind : Qcow2 S F → Qcow2 S F → List (Option Prepared) → (n : ℕ) → Bool → Prepared → Result (Option ClusterMapping) ImageError → Type 0
+    abbrev pub FindsBehind : Qcow2 S F → Qcow2 S F → Mappings → (n : ℕ) → Bool → Prepared → Result (Option ClusterMapping) ImageError → Type 0
     FindsBehind old new out n overwrite p (Ok (Some cluster_mapping)) = StandsBehind old new out n overwrite p cluster_mapping
     FindsBehind old new out n overwrite p (Ok None) = InternalCall view backing old new out × Ends new p
     FindsBehind old new out n overwrite p (Err e) = RefusedCall view backing old new out e
 
     -- A prepared mapping was extended in its slot. Everything in it that is not copied data is private.
-    pub record IsExtended (old new : Qcow2 S F) (out : List (Option Prepared)) (k n : ℕ) (overwrite : Bool) (p q : Prepared) : Type 0 where
-      pub works : EffectOnSound (abstract_of view backing old out) (abstract_of view backing new (slice_set out k (Some q))) [] []
-      pub sound : ImageInvariant view backing (pending_in view backing new (slice_set out k (Some q))) new (slice_set out k (Some q))
+    pub record IsExtended (old new : Qcow2 S F) (out : Mappings) (k n : ℕ) (overwrite : Bool) (p q : Prepared) : Type 0 where
+      pub works : EffectOnSound (abstract_of view backing old out) (abstract_of view backing new (set_slot out k (Some q))) [] []
+      pub sound : ImageInvariant view backing (pending_in view backing new (set_slot out k (Some q))) new (set_slot out k (Some q))
       pub header : KeepsFormat old.file.header.fields new.file.header.fields
       pub covers : SameCovers old.file.header.fields (known_in view old.file) (known_in view new.file)
-      pub prepared : IsPrepared (cluster_size old.file.header.fields) (guest_of (abstract_of view backing old out)).disk p.guest n overwrite (meaning view backing old p)
-          → IsPrepared (cluster_size old.file.header.fields) (guest_of (abstract_of view backing old out)).disk p.guest n overwrite (meaning view backing new q)
-      pub is : guest_of (abstract_of view backing new (slice_set out k (Some q))) ≡ with_slot (guest_of (abstract_of view backing old out)) k (Some (meaning view backing new q))
+      pub prepared : IsPrepared (cluster_size old.file.header.fields) (guest_of (abstract_of view backing old out)).disk p.guest n overwrite (meaning view backing out.place old p)
+          → IsPrepared (cluster_size old.file.header.fields) (guest_of (abstract_of view backing old out)).disk p.guest n overwrite (meaning view backing out.place new q)
+      pub is : guest_of (abstract_of view backing new (set_slot out k (Some q))) ≡ with_slot (guest_of (abstract_of view backing old out)) k (Some (meaning view backing out.place new q))
 
     -- A mapping was extended by the next cluster; or there can be none, and nothing changed; or the part was refused.
-    abbrev pub GoesNext : Qcow2 S F → Qcow2 S F → List (Option Prepared) → (k n : ℕ) → Bool → Prepared → Prepared → Result Bool ImageError → Type 0
+    abbrev pub GoesNext : Qcow2 S F → Qcow2 S F → Mappings → (k n : ℕ) → Bool → Prepared → Prepared → Result Bool ImageError → Type 0
     GoesNext old new out k n overwrite p q (Ok true) = IsExtended old new out k n overwrite p q
     GoesNext old new out k n overwrite p q (Ok false) = InternalCall view backing old new out × Ends new p
     GoesNext old new out k n overwrite p q (Err e) = RefusedCall view backing old new out e
 
     -- A range was prepared up to some point, and then a part was refused.
-    pub record BreaksOff (start new : Qcow2 S F) (out : List (Option Prepared)) (k n : ℕ) (overwrite : Bool) (q : Prepared) (e : ImageError) : Type 0 where
+    pub record BreaksOff (start new : Qcow2 S F) (out : Mappings) (k n : ℕ) (overwrite : Bool) (q : Prepared) (e : ImageError) : Type 0 where
       pub mid : Qcow2 S F
       pub readied : IsReadied view backing start mid out k q.guest n overwrite q
-      pub refused : RefusedCall view backing mid new (slice_set out k (Some q)) e
+      pub refused : RefusedCall view backing mid new (set_slot out k (Some q)) e
 
     -- A range that was prepared in part is prepared as far as possible.
-    abbrev pub GoesOn : Qcow2 S F → Qcow2 S F → List (Option Prepared) → (k n : ℕ) → Bool → Prepared → Result (Unit {0}) ImageError → Type 0
+    abbrev pub GoesOn : Qcow2 S F → Qcow2 S F → Mappings → (k n : ℕ) → Bool → Prepared → Result (Unit {0}) ImageError → Type 0
     GoesOn start new out k n overwrite q (Ok _) = IsReadied view backing start new out k q.guest n overwrite q × (q.length < n → Ends new q)
     GoesOn start new out k n overwrite q (Err e) = BreaksOff start new out k n overwrite q e

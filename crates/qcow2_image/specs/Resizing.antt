@@ -1,4 +1,5 @@
 -- Resizing: the tail is unmapped, or the L1 table made longer, and the size is written last.
+use Rattle.qcow2_image.specs.declared.mapping.Place.{Place}
 use Rattle.std.specs.Prelude.{ℕ, ◌+◌, ◌-◌, ◌^◌, ◌≡◌, ◌↔◌, ◌⊎◌, ◌<◌, ◌≤◌, Bool, false, is_some, not, true, List, [], ◌∷◌, Option, Some, None, IfErr, IfOk, IfSome, IsTrue, MatchOption, OnOk, Result, Ok, Err}
 use Rattle.std.specs.Option.{option_or}
 use Rattle.image_access.specs.Backing.{BackingView}
@@ -28,7 +29,7 @@ use Rattle.qcow2_image.specs.declared.prepared.Prepared.{Prepared}
 use Rattle.qcow2_image.specs.Faults.{CountsImageFaults, NoFewerFaults, ReportsEachIn, ReportsFault}
 use Rattle.qcow2_image.specs.Growing.{ReachesSize, SameFormat, LastsCall}
 use Rattle.qcow2_image.specs.Image.{HasNothingToFree, IsSameImage, is_beside, lacks_data_file, is_failed, is_writable, number_of, size_of}
-use Rattle.qcow2_image.specs.ImageInvariant.{ImageInvariant, abstract_of, disk_of, pending_in}
+use Rattle.qcow2_image.specs.ImageInvariant.{ImageInvariant, abstract_of, disk_of, pending_in, Mappings}
 use Rattle.qcow2_image.specs.L1Entries.{NeedsOverflowingL1Entry, ReachesOffset}
 use Rattle.qcow2_image.specs.Limits.{IsLimited}
 use Rattle.qcow2_image.specs.MovedTables.{CoversStay}
@@ -74,7 +75,7 @@ module _ {S F : Type 0} where
 pub record MayFailShrinking {S F : Type 0} (view : S → StorageView) (backing : F → BackingView) (old new : Qcow2 S F) (e : ImageError) : Type 0 where
   pub cause : IsFaultOfTables e ⊎ (e ≡ I.MappingPrepared)
   pub same : e ≡ I.MappingPrepared → new ≡ old
-  pub prepared : e ≡ I.MappingPrepared → (out : List (Option Prepared)) → (abstract_of view backing old out).is_sound → HasPinnedMapping out
+  pub prepared : e ≡ I.MappingPrepared → (out : Mappings) → (abstract_of view backing old out).is_sound → HasPinnedMapping out
 
 -- Where a step of a shrink ends: at the end of the disk, or at an earlier cluster boundary, with at least one whole cluster in between.
 pub record IsTurnEnd (cluster_size end at next : ℕ) : Type 0 where
@@ -102,37 +103,37 @@ module _ {S F : Type 0} (view : S → StorageView) (backing : F → BackingView)
     pub lasts : shows_old mode ≡ true → LastsCall view (size ∷ []) old new result
 
   -- What a shrink may give; and what it gives if it unmapped the tail up to an offset.
-  abbrev pub all_given_by_shrink : Qcow2 S F → ℕ → List GivenBytes
-  all_given_by_shrink image size = given_by_shrink (setting_of view backing image) (disk_of view backing image) size ∷ []
+  abbrev pub all_given_by_shrink : Place → Qcow2 S F → ℕ → List GivenBytes
+  all_given_by_shrink place image size = given_by_shrink (setting_of view backing image) (disk_of view backing place image) size ∷ []
 
-  abbrev pub all_given_by_shrunk : Qcow2 S F → (size answer : ℕ) → List GivenBytes
-  all_given_by_shrunk image size answer = given_by_shrunk (setting_of view backing image) (disk_of view backing image) size answer ∷ []
+  abbrev pub all_given_by_shrunk : Place → Qcow2 S F → (size answer : ℕ) → List GivenBytes
+  all_given_by_shrunk place image size answer = given_by_shrunk (setting_of view backing image) (disk_of view backing place image) size answer ∷ []
 
   -- The disk has this size, and its tail is unmapped up to the returned offset; or the shrink was refused.
   abbrev pub Shrinks : Qcow2 S F → Qcow2 S F → ℕ → Result ℕ ImageError → Type 0
-  Shrinks old new size (Ok answer) = (out : List (Option Prepared)) → let v = abstract_of view backing old out in let w = abstract_of view backing new out in
-      AnsweredEffect v w (all_given_by_shrunk old size answer) (size ∷ []) ((d : Disk) × IsShrunk v.setting (guest_of v).disk size answer d × (guest_of w ≡ with_disk (guest_of v) d))
-  Shrinks old new size (Err e) = (out : List (Option Prepared)) → let v = abstract_of view backing old out in let w = abstract_of view backing new out in
-      RefusedEffect v w (all_given_by_shrink old size) (size ∷ []) (refusal_of e) (IsSame v w)
+  Shrinks old new size (Ok answer) = (out : Mappings) → let v = abstract_of view backing old out in let w = abstract_of view backing new out in
+      AnsweredEffect v w (all_given_by_shrunk out.place old size answer) (size ∷ []) ((d : Disk) × IsShrunk v.setting (guest_of v).disk size answer d × (guest_of w ≡ with_disk (guest_of v) d))
+  Shrinks old new size (Err e) = (out : Mappings) → let v = abstract_of view backing old out in let w = abstract_of view backing new out in
+      RefusedEffect v w (all_given_by_shrink out.place old size) (size ∷ []) (refusal_of e) (IsSame v w)
 
   -- What a growth gives: zeros past the old end, if the mode asks for them.
-  abbrev pub all_given_by_grow : Qcow2 S F → ℕ → PreallocateMode → List GivenBytes
-  all_given_by_grow image size mode = given_by_grow (setting_of view backing image) (disk_of view backing image) size mode
+  abbrev pub all_given_by_grow : Place → Qcow2 S F → ℕ → PreallocateMode → List GivenBytes
+  all_given_by_grow place image size mode = given_by_grow (setting_of view backing image) (disk_of view backing place image) size mode
 
   -- The disk has this size; or the growth was refused, and then bytes past its end may be zeros, if the mode asks for them.
   abbrev pub GrowsTo : Qcow2 S F → Qcow2 S F → ℕ → PreallocateMode → Result (Unit {0}) ImageError → Type 0
-  GrowsTo old new size mode (Ok _) = (out : List (Option Prepared)) → let v = abstract_of view backing old out in let w = abstract_of view backing new out in
-      AnsweredEffect v w (all_given_by_grow old size mode) (size ∷ []) (guest_of w ≡ with_disk (guest_of v) (grown_to v.setting (guest_of v).disk size mode))
-  GrowsTo old new size mode (Err e) = (out : List (Option Prepared)) → let v = abstract_of view backing old out in let w = abstract_of view backing new out in
-      RefusedEffect v w (all_given_by_grow old size mode) (size ∷ []) (refusal_of e) ((d : Disk) × MayGrow v.setting (guest_of v).disk size mode d × (guest_of w ≡ with_disk (guest_of v) d))
+  GrowsTo old new size mode (Ok _) = (out : Mappings) → let v = abstract_of view backing old out in let w = abstract_of view backing new out in
+      AnsweredEffect v w (all_given_by_grow out.place old size mode) (size ∷ []) (guest_of w ≡ with_disk (guest_of v) (grown_to v.setting (guest_of v).disk size mode))
+  GrowsTo old new size mode (Err e) = (out : Mappings) → let v = abstract_of view backing old out in let w = abstract_of view backing new out in
+      RefusedEffect v w (all_given_by_grow out.place old size mode) (size ∷ []) (refusal_of e) ((d : Disk) × MayGrow v.setting (guest_of v).disk size mode d × (guest_of w ≡ with_disk (guest_of v) d))
 
   -- A refused call changes no byte of the disk.
-  abbrev pub RefusesUnchanged : Qcow2 S F → Qcow2 S F → List (Option Prepared) → ImageError → Type 0
+  abbrev pub RefusesUnchanged : Qcow2 S F → Qcow2 S F → Mappings → ImageError → Type 0
   RefusesUnchanged old new out e = RefusedEffect (abstract_of view backing old out) (abstract_of view backing new out) [] [] (refusal_of e) (IsSame (abstract_of view backing old out) (abstract_of view backing new out))
 
   -- The tables after a growth: a header of the same format; an L1 table that covers every byte, and is no longer than the old one or the new size needs; and the mappings that the mode asks for. No cluster waits to be freed.
   -- With `Zero`, the image has zero clusters. With every mode but `None`, no mapping is pinned in the L2 table of an entry past the old end that had to change.
-  pub record LeavesTables (mode : PreallocateMode) (size : ℕ) (old new : Qcow2 S F) (out : List (Option Prepared)) : Type 0 where
+  pub record LeavesTables (mode : PreallocateMode) (size : ℕ) (old new : Qcow2 S F) (out : Mappings) : Type 0 where
     pub format : SameFormat old.file.header.fields new.file.header.fields
     pub autoclear : new.file.header.fields.autoclear ≡ old.file.header.fields.autoclear
     pub reaches : ReachesSize new.file.header.fields
@@ -144,39 +145,39 @@ module _ {S F : Type 0} (view : S → StorageView) (backing : F → BackingView)
 
   -- A growth is refused 9 only if zeros are asked for, and a mapping is pinned in an L2 table past the old end.
   -- With `Zero` on an image without zero clusters, no byte changes. It is refused for its version (3), unless a fault came first, or there is no L1 table that is long enough.
-  pub record RefusesTables (mode : PreallocateMode) (size : ℕ) (old new : Qcow2 S F) (out : List (Option Prepared)) (e : ImageError) : Type 0 where
+  pub record RefusesTables (mode : PreallocateMode) (size : ℕ) (old new : Qcow2 S F) (out : Mappings) (e : ImageError) : Type 0 where
     pub taken : e ≡ I.TablePrepared → (shows_old mode ≡ false) × IsUnderMappingIn old.file.header.fields (size_of old) (boundary_in old size) out
     pub zeros : mode ≡ Mode.Zero → LacksZeros old → RefusesUnchanged old new out e
     pub version : mode ≡ Mode.Zero → LacksZeros old → (e ≡ I.Version) ⊎ IsFaultOr (IsLimited view backing [] size old out) e
 
   -- The tables after a growth or a refused one.
-  abbrev pub GrowsTables : Qcow2 S F → Qcow2 S F → ℕ → PreallocateMode → List (Option Prepared) → Result (Unit {0}) ImageError → Type 0
+  abbrev pub GrowsTables : Qcow2 S F → Qcow2 S F → ℕ → PreallocateMode → Mappings → Result (Unit {0}) ImageError → Type 0
   GrowsTables old new size mode out (Ok _) = LeavesTables mode size old new out
   GrowsTables old new size mode out (Err e) = RefusesTables mode size old new out e
 
   -- ---- parts of the work
 
   -- Why the next cluster is not unmapped: the disk's end, rounded up, passes 64 bits; or a new L2 table is refused, for a limit (13) or an L1 entry past 64 bits (20).
-  abbrev pub RefusesDiscard : Qcow2 S F → (at : ℕ) → List (Option Prepared) → Type 0
+  abbrev pub RefusesDiscard : Qcow2 S F → (at : ℕ) → Mappings → Type 0
   RefusesDiscard image at out = (2 ^ 64 ≤ boundary_in image (size_of image)) ⊎ (IsLimited view backing [] (boundary_in image at + 1) image out ⊎ NeedsOverflowingL1Entry image (boundary_in image at))
 
   -- A refused step of a shrink is a fault, or the next cluster can't be unmapped.
-  abbrev pub StopsStep : (at : ℕ) → Qcow2 S F → Qcow2 S F → List (Option Prepared) → ImageError → Type 0
+  abbrev pub StopsStep : (at : ℕ) → Qcow2 S F → Qcow2 S F → Mappings → ImageError → Type 0
   StopsStep at old new out e = IsFaultOfTables e ⊎ (CantDiscard view (size_of old) new at × RefusesDiscard old at out)
 
   -- The whole clusters from one offset up to another show the backing disk.
-  abbrev pub ShowsBelow : (at next : ℕ) → Qcow2 S F → Qcow2 S F → List (Option Prepared) → Type 0
-  ShowsBelow at next old new out = guest_of (abstract_of view backing new out) ≡ with_disk (guest_of (abstract_of view backing old out)) (cleared (setting_of view backing old) (disk_of view backing old) to_backing (boundary_in old at) (boundary_in old next))
+  abbrev pub ShowsBelow : (at next : ℕ) → Qcow2 S F → Qcow2 S F → Mappings → Type 0
+  ShowsBelow at next old new out = guest_of (abstract_of view backing new out) ≡ with_disk (guest_of (abstract_of view backing old out)) (cleared (setting_of view backing old) (disk_of view backing out.place old) to_backing (boundary_in old at) (boundary_in old next))
 
   -- The clusters between two offsets are unmapped.
-  pub record DiscardsPart (at next : ℕ) (old new : Qcow2 S F) (out : List (Option Prepared)) : Type 0 where
-    pub works : EffectOnSound (abstract_of view backing old out) (abstract_of view backing new out) (given_bytes_between view backing old Uncovered (boundary_in old at) (boundary_in old next)) []
+  pub record DiscardsPart (at next : ℕ) (old new : Qcow2 S F) (out : Mappings) : Type 0 where
+    pub works : EffectOnSound (abstract_of view backing old out) (abstract_of view backing new out) (given_bytes_between view backing out.place old Uncovered (boundary_in old at) (boundary_in old next)) []
     pub sound : ImageInvariant view backing (pending_in view backing new out) new out
     pub shows : ShowsBelow at next old new out
     pub covers : DiscardsClusters view at next old new
 
   -- Why the tail is unmapped only up to an offset: a step from there on was refused, at an image that had all of it unmapped up to there.
-  pub record StopsAt (size at : ℕ) (old new : Qcow2 S F) (out : List (Option Prepared)) : Type 0 where
+  pub record StopsAt (size at : ℕ) (old new : Qcow2 S F) (out : Mappings) : Type 0 where
     pub cant : CantDiscard view (size_of old) new at
     pub before : Qcow2 S F
     pub unmapped : DiscardsPart size at old before out
@@ -184,18 +185,18 @@ module _ {S F : Type 0} (view : S → StorageView) (backing : F → BackingView)
 
   -- One step of a shrink.
   abbrev pub DiscardsNext : Qcow2 S F → Qcow2 S F → ℕ → Result ℕ ImageError → Type 0
-  DiscardsNext old new at (Ok next) = (out : List (Option Prepared)) → ImageInvariant view backing (pending_in view backing old out) old out → DiscardsPart at next old new out × IsTurnEnd (cluster_size old.file.header.fields) (size_of old) at next
+  DiscardsNext old new at (Ok next) = (out : Mappings) → ImageInvariant view backing (pending_in view backing old out) old out → DiscardsPart at next old new out × IsTurnEnd (cluster_size old.file.header.fields) (size_of old) at next
   DiscardsNext old new at (Err e) =
-      ((out : List (Option Prepared)) → let v = abstract_of view backing old out in let w = abstract_of view backing new out in
-      RefusedEffect v w (given_bytes_between view backing old Uncovered (boundary_in old at) (boundary_in old (size_of old))) [] (refusal_of e) (IsSame v w))
+      ((out : Mappings) → let v = abstract_of view backing old out in let w = abstract_of view backing new out in
+      RefusedEffect v w (given_bytes_between view backing out.place old Uncovered (boundary_in old at) (boundary_in old (size_of old))) [] (refusal_of e) (IsSame v w))
       × RefusesUngiven view backing old new e
 
   -- All steps of a shrink: the tail is unmapped up to an offset. If a fault ended them, the image failed, unless memory ran out before the last step changed anything.
-  abbrev pub DiscardsTail : Qcow2 S F → Qcow2 S F → (size at : ℕ) → Option ImageError → List (Option Prepared) → Type 0
+  abbrev pub DiscardsTail : Qcow2 S F → Qcow2 S F → (size at : ℕ) → Option ImageError → Mappings → Type 0
   DiscardsTail old new size at None out =
       DiscardsPart size at old new out × IsShrinkEnd (cluster_size old.file.header.fields) (size_of old) size at
   DiscardsTail old new size at (Some e) out =
-      EffectOnSound (abstract_of view backing old out) (abstract_of view backing new out) (given_bytes_between view backing old Uncovered (boundary_in old size) (boundary_in old (size_of old))) []
+      EffectOnSound (abstract_of view backing old out) (abstract_of view backing new out) (given_bytes_between view backing out.place old Uncovered (boundary_in old size) (boundary_in old (size_of old))) []
       × ((ImageInvariant view backing (pending_in view backing new out) new out × ShowsBelow size at old new out × IsShrinkEnd (cluster_size old.file.header.fields) (size_of old) size at) ⊎ IsTrue (is_failed new))
 
   -- A step of a shrink, whatever the image contains: it is the same image, marked as failed by the rule. Its changes are recorded and counted, the header's cluster stays the same, and each fault is reported.
@@ -211,9 +212,9 @@ module _ {S F : Type 0} (view : S → StorageView) (backing : F → BackingView)
   pub record DiscardsStep (at : ℕ) (old new : Qcow2 S F) (result : Result ℕ ImageError) : Type 0 where
     pub on : IfOk result (λ next. (at < next) × (next ≤ size_of old))
     pub uncovers : DiscardsNext old new at result
-    pub stops : refuses_to_resize old ≡ None → (out : List (Option Prepared)) → (abstract_of view backing old out).is_sound → (HasPinnedMapping out → ⊥) → IfErr result (StopsStep at old new out)
-    pub changed : (out : List (Option Prepared)) → ImageInvariant view backing (pending_in view backing old out) old out → IfOk result (λ next. boundary_in old at < next → ChangesRose old new)
-    pub emptied : (out : List (Option Prepared)) → ImageInvariant view backing (pending_in view backing old out) old out → OnOk result ((boundary_in old at < size_of old) ⊎ HasNothingToFree old → HasNothingToFree new)
+    pub stops : refuses_to_resize old ≡ None → (out : Mappings) → (abstract_of view backing old out).is_sound → (HasPinnedMapping out → ⊥) → IfErr result (StopsStep at old new out)
+    pub changed : (out : Mappings) → ImageInvariant view backing (pending_in view backing old out) old out → IfOk result (λ next. boundary_in old at < next → ChangesRose old new)
+    pub emptied : (out : Mappings) → ImageInvariant view backing (pending_in view backing old out) old out → OnOk result ((boundary_in old at < size_of old) ⊎ HasNothingToFree old → HasNothingToFree new)
 
   -- All steps of a shrink, whatever the image contains. If they end with a refusal, it is a fault.
   pub record TailStep (stopped : Option ImageError) (old new : Qcow2 S F) : Type 0 where
@@ -225,40 +226,40 @@ module _ {S F : Type 0} (view : S → StorageView) (backing : F → BackingView)
     pub faults : NoFewerFaults view backing old new × IfSome stopped (ReportsFault view backing old new) × ReportsEachIn view backing old new stopped
 
   -- What all steps of a shrink do to a sound image up to an offset. A change was counted if they passed a cluster boundary. If no fault ended them before the disk's end, the next cluster can't be unmapped. No cluster waits to be freed if a whole one lay past the new end.
-  pub record DiscardsSoundly (size at : ℕ) (stopped : Option ImageError) (old new : Qcow2 S F) (out : List (Option Prepared)) : Type 0 where
+  pub record DiscardsSoundly (size at : ℕ) (stopped : Option ImageError) (old new : Qcow2 S F) (out : Mappings) : Type 0 where
     pub uncovers : DiscardsTail old new size at stopped out
     pub stops : refuses_to_resize old ≡ None → (HasPinnedMapping out → ⊥) → stopped ≡ None → at < size_of old → StopsAt size at old new out
     pub emptied : IsTrue (is_writable old) → stopped ≡ None → boundary_in old size < size_of old → HasNothingToFree new
     pub changed : boundary_in old size < at → ChangesRose old new
 
   -- A refused write of the size: if the storage failed, the new size may be on it.
-  pub record MayStand (old new : Qcow2 S F) (out : List (Option Prepared)) (size : ℕ) (e : ImageError) : Type 0 where
+  pub record MayStand (old new : Qcow2 S F) (out : Mappings) (size : ℕ) (e : ImageError) : Type 0 where
     pub fault : e ≡ I.Storage
     pub works : EffectOnSound (abstract_of view backing old out) (abstract_of view backing (record new { is_failed = true }) out) [] (size ∷ [])
 
   -- The disk has another size, and otherwise shows the same. Every mapping is the same.
-  pub record SetsSize (size : ℕ) (old new : Qcow2 S F) (out : List (Option Prepared)) : Type 0 where
+  pub record SetsSize (size : ℕ) (old new : Qcow2 S F) (out : Mappings) : Type 0 where
     pub works : EffectOnSound (abstract_of view backing old out) (abstract_of view backing new out) [] (size ∷ [])
     pub sound : ImageInvariant view backing (pending_in view backing new out) new out
-    pub shows : guest_of (abstract_of view backing new out) ≡ with_disk (guest_of (abstract_of view backing old out)) (record (disk_of view backing old) { size = size })
+    pub shows : guest_of (abstract_of view backing new out) ≡ with_disk (guest_of (abstract_of view backing old out)) (record (disk_of view backing out.place old) { size = size })
     pub covers : CoversStay old.file.header.fields (known_in view old.file) new.file.header.fields (known_in view new.file)
 
   -- An offset before the disk's end is returned only where a step from there on was refused. If a whole cluster lay past the new end, no cluster waits to be freed.
-  pub record EndsTail (out : List (Option Prepared)) (old new : Qcow2 S F) (size answer : ℕ) : Type 0 where
+  pub record EndsTail (out : Mappings) (old new : Qcow2 S F) (size answer : ℕ) : Type 0 where
     pub stops : answer < size_of old → StopsAt size answer old new out
     pub emptied : boundary_in old size < size_of old → HasNothingToFree new
 
   -- A shrink is refused 17 exactly while an L2 table is pinned, which it is while a mapping is prepared that isn't existing. Nothing changes then.
   pub record RefusesPinned (old new : Qcow2 S F) (result : Result ℕ ImageError) : Type 0 where
-    pub prepared : (out : List (Option Prepared)) → (abstract_of view backing old out).is_sound → HasPinnedMapping out → (result ≡ Err I.MappingPrepared) × (new ≡ old)
+    pub prepared : (out : Mappings) → (abstract_of view backing old out).is_sound → HasPinnedMapping out → (result ≡ Err I.MappingPrepared) × (new ≡ old)
     pub pinned : (result ≡ Err I.MappingPrepared) ↔ HasPinnedTable old
 
   -- What a shrink does to a sound image. The clusters up to the returned offset are unmapped. The size is the last write.
-  pub record ShrinksSoundly (size : ℕ) (old new : Qcow2 S F) (out : List (Option Prepared)) (result : Result ℕ ImageError) : Type 0 where
+  pub record ShrinksSoundly (size : ℕ) (old new : Qcow2 S F) (out : Mappings) (result : Result ℕ ImageError) : Type 0 where
     pub covers : IfOk result (λ answer. DiscardsClusters view size answer old new)
     pub stops : IfOk result (EndsTail out old new size)
     pub last : WritesSizeLast old new
 
-  abbrev pub WritesSize : Qcow2 S F → Qcow2 S F → List (Option Prepared) → ℕ → Result (Unit {0}) ImageError → Type 0
+  abbrev pub WritesSize : Qcow2 S F → Qcow2 S F → Mappings → ℕ → Result (Unit {0}) ImageError → Type 0
   WritesSize old new out size (Ok _) = SetsSize size old new out
   WritesSize old new out size (Err e) = InternalCall view backing old new out ⊎ MayStand old new out size e

@@ -4,7 +4,7 @@ ghost use Rattle.qcow2_alloc.specs.declared.error.ImageError.TheVariants.{Failed
 ghost use Rattle.qcow2_image.specs.declared.prepared.Prepared.{Prepared};
 ghost use Rattle.qcow2_image.specs.Backings.{HasPinnedMapping, IsOver};
 ghost use Rattle.qcow2_image.specs.Image.{IsSameImage, is_failed};
-ghost use Rattle.qcow2_image.specs.ImageInvariant.{IsHonestBacking, abstract_of};
+ghost use Rattle.qcow2_image.specs.ImageInvariant.{IsHonestBacking, abstract_of, Mappings};
 ghost use Rattle.qcow2_image.specs.Image.{HasPinnedTable};
 
 use crate::{ImageError, Qcow2};
@@ -17,12 +17,12 @@ impl<S: Storage, F: WrappedFormat<S>> Qcow2<S, F> {
         ensures failed { IsTrue (is_failed self.old) → (result ≡ Err (backing, Failed)) × (self.new ≡ self.old) }
         ensures refused { is_failed self.old ≡ false
             → IfErr result (λ refused. (refused ≡ (backing, MappingPrepared)) × (self.new ≡ self.old)) }
-        ensures prepared { is_failed self.old ≡ false → (out : List (Option Prepared))
+        ensures prepared { is_failed self.old ≡ false → (out : Mappings)
             → (abstract_of S.view F.backing self.old out).is_sound → IsErr result ↔ HasPinnedMapping out }
         ensures pinned { is_failed self.old ≡ false → IsErr result ↔ HasPinnedTable self.old }
         ensures image { IsSameImage self.old self.new }
         ensures done { OnOk result (self.new ≡ record self.old { backing = backing }) }
-        ensures sees { (out : List (Option Prepared)) → (abstract_of S.view F.backing self.old out).is_sound
+        ensures sees { (out : Mappings) → (abstract_of S.view F.backing self.old out).is_sound
             → IsHonestBacking S.view F.backing backing
             → OnOk result (IsOver S.view F.backing backing self.old self.new out) }
     {

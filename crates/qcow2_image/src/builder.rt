@@ -1,4 +1,5 @@
 //! Creating an image.
+ghost use Rattle.qcow2_image.specs.declared.mapping.Place.TheVariants.{Image};
 ghost use Rattle.qcow2_image.specs.Limits.{IfLimit, IsLimited};
 ghost use Rattle.std.specs.Prelude.{ℕ, ◌≡◌, ◌≢◌, ◌⊎◌, ◌↔◌, ◌^◌, ◌<◌, ◌≤◌, [], None, IfSome, IfNone, IfOk, IfErr, IsNone, OnOk};
 ghost use Rattle.std.specs.Prelude.{IsSome, IsTrue, Ok, is_some, false};
@@ -18,7 +19,7 @@ ghost use Rattle.qcow2_image.specs.Image.{is_beside, is_writable};
 ghost use Rattle.qcow2_alloc.specs.ImageError.{IsFault};
 ghost use Rattle.qcow2_image.specs.Refusals.{IsFaultOrLimit};
 ghost use Rattle.qcow2_image.specs.Resizing.{all_given_by_grow, boundary_in, refuses_to_resize};
-ghost use Rattle.qcow2_image.specs.ImageInvariant.{abstract_of};
+ghost use Rattle.qcow2_image.specs.ImageInvariant.{abstract_of, in_image};
 ghost use Rattle.qcow2_image.specs.Growing.{LeavesSound};
 ghost use Rattle.qcow2_laws.specs.Opened.{HasNoLeaks};
 ghost use Rattle.qcow2_image.specs.Created.{longest_disk, IsUnmapped, IsUnwritten, IsNewHeader, CountsThree, NamesOne};
@@ -569,18 +570,19 @@ fn grow_and_flush<S: Storage, F: WrappedFormat<S>>(
     size: u64,
     mode: PreallocateMode,
 ) -> Result<(), ImageError>
-    ensures enlarges { IsOpened (abstract_of S.view F.backing image.old []) → IsTrue (is_writable image.old)
+    ensures enlarges { IsOpened (abstract_of S.view F.backing image.old (in_image [])) → IsTrue (is_writable image.old)
         → is_some image.old.backing ≡ false → IsUnwritten 0 (byte_at (view_in S.view image.old.file).contents)
         → Enlarges mode size (view_in S.view image.old.file) (view_in S.view image.new.file) result }
-    ensures leaks { IsOpened (abstract_of S.view F.backing image.old []) → IsTrue (is_writable image.old)
-        → ((c : ℕ) → (abstract_of S.view F.backing image.old []).surplus c ≡ 0)
+    ensures leaks { IsOpened (abstract_of S.view F.backing image.old (in_image [])) → IsTrue (is_writable image.old)
+        → ((c : ℕ) → (abstract_of S.view F.backing image.old (in_image [])).surplus c ≡ 0)
         → OnOk result (HasNoLeaks (byte_at (view_in S.view image.new.file).contents)) }
     ensures fault { refuses_to_resize image.old ≡ None → IsTrue (is_writable image.old)
-        → is_some image.old.backing ≡ false → (abstract_of S.view F.backing image.old []).is_sound
+        → is_some image.old.backing ≡ false → (abstract_of S.view F.backing image.old (in_image [])).is_sound
         → IsUnmapped S.view image.old → IfErr result IsFaultOrLimit }
-    ensures limit { refuses_to_resize image.old ≡ None → (abstract_of S.view F.backing image.old []).is_sound
+    ensures limit { refuses_to_resize image.old ≡ None → (abstract_of S.view F.backing image.old (in_image [])).is_sound
         → IfLimit result (IsLimited S.view F.backing
-        (all_given_by_grow S.view F.backing image.old size mode) (boundary_in image.old size) image.old []
+        (all_given_by_grow S.view F.backing Image image.old size mode) (boundary_in image.old size)
+        image.old (in_image [])
         × LeavesSound S.view F.backing image.old image.new) }
     ensures faults { CountsImageFaults S.view F.backing image.old image.new result }
     ensures beside { is_beside image.new ≡ is_beside image.old }

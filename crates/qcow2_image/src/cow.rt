@@ -12,7 +12,7 @@ ghost use Rattle.qcow2_image.specs.CallParts.{WritesData, WritesOwnData};
 ghost use Rattle.qcow2_image.specs.InternalSteps.{InternalFillingStep, HoldsAll, IsCopied, IsFilled, IsKeptAlone};
 ghost use Rattle.qcow2_image.specs.InternalSteps.{IsInHeldCluster, is_announced};
 ghost use Rattle.qcow2_image.specs.CopyRange.{HasByte};
-ghost use Rattle.qcow2_image.specs.ImageInvariant.{ImageInvariant};
+ghost use Rattle.qcow2_image.specs.ImageInvariant.{ImageInvariant, Mappings};
 ghost use Rattle.qcow2_image.specs.Found.{IsMappedAs};
 ghost use Rattle.qcow2_image.specs.declared.prepared.Prepared.{Prepared};
 ghost use Rattle.qcow2_image.specs.Refusals.{MayFailOn};
@@ -75,14 +75,14 @@ impl<S: Storage, F: WrappedFormat<S>> Qcow2<S, F> {
           file = record self.old.file { storage = self.new.file.storage };
           data_file = self.new.data_file;
         } }
-        ensures image_step { (p : Pending) (out : List (Option Prepared))
+        ensures image_step { (p : Pending) (out : Mappings)
             → ImageInvariant S.view F.backing p self.old out → HoldsAll S.view F.backing p out
             → IsKeptAlone S.view F.backing self.old out offset host
             → InternalFillingStep S.view F.backing p p self.old self.new out }
-        ensures fills { (p : Pending) (out : List (Option Prepared)) → ImageInvariant S.view F.backing p self.old out
+        ensures fills { (p : Pending) (out : Mappings) → ImageInvariant S.view F.backing p self.old out
             → cover self.old.file.header.fields (known_in S.view self.old.file)
             (offset / cluster_size self.old.file.header.fields) ≡ L2Mapping.Zero (Some (host, true))
-            → IfOk result (λ done. IsFilled S.view F.backing self.old self.new
+            → IfOk result (λ done. IsFilled S.view F.backing out.place self.old self.new
             (host / cluster_size self.old.file.header.fields) offset length overwrite) }
     {
         match self.part_to_fill(offset, length, overwrite) {
@@ -118,13 +118,13 @@ impl<S: Storage, F: WrappedFormat<S>> Qcow2<S, F> {
         ensures step { FillingStep S.view self.old self.new }
         ensures fails { FailsUnlimited S.view F.backing self.old self.new result (MayFailCopying self.new kind.now) }
         ensures may_fail { cluster_size self.old.file.header.fields ≤ at → IfErr result (MayFailReading kind.now) }
-        ensures image_step { (p : Pending) (out : List (Option Prepared)) (cluster : ℕ)
+        ensures image_step { (p : Pending) (out : Mappings) (cluster : ℕ)
             → ImageInvariant S.view F.backing p self.old out → HoldsAll S.view F.backing p out
             → IsInHeldCluster S.view F.backing p self.old out cluster at length
             → InternalFillingStep S.view F.backing p p self.old self.new out }
-        ensures copies { (p : Pending) (out : List (Option Prepared)) → ImageInvariant S.view F.backing p self.old out
+        ensures copies { (p : Pending) (out : Mappings) → ImageInvariant S.view F.backing p self.old out
             → IsMappedAs S.view self.old guest kind.now length
-            → IfOk result (λ done. IsCopied S.view F.backing self.old self.new at guest length) }
+            → IfOk result (λ done. IsCopied S.view F.backing out.place self.old self.new at guest length) }
     {
         if let MappingKind::Zero { explicit: _ } = kind {
             return self.write_zeros(at, length);

@@ -14,7 +14,7 @@ ghost use Rattle.qcow2_image.specs.CallParts.{WritesBeside};
 ghost use Rattle.qcow2_image.specs.DataFiles.{CallsBeside, DataFileStep, ReadsData};
 ghost use Rattle.qcow2_image.specs.HeldMappings.{ReadsFrom};
 ghost use Rattle.qcow2_image.specs.Image.{HasPinnedTable, is_failed, is_placed_by_guest, place_in, storage_of_image};
-ghost use Rattle.qcow2_image.specs.ImageInvariant.{abstract_of};
+ghost use Rattle.qcow2_image.specs.ImageInvariant.{abstract_of, Mappings};
 ghost use Rattle.qcow2_image.specs.ImageSteps.{ImageFails, ReadingStep};
 ghost use Rattle.qcow2_image.specs.Storages.{PassesBeside};
 ghost use Rattle.qcow2_image.specs.declared.prepared.Prepared.{Prepared};
@@ -34,7 +34,7 @@ impl<S: Storage, F: WrappedFormat<S>> Qcow2<S, F> {
         ensures failed { IsTrue (is_failed self.old) → (result ≡ Err (file, Failed)) × (self.new ≡ self.old) }
         ensures refused { is_failed self.old ≡ false
             → IfErr result (λ refused. (refused ≡ (file, MappingPrepared)) × (self.new ≡ self.old)) }
-        ensures prepared { is_failed self.old ≡ false → (out : List (Option Prepared))
+        ensures prepared { is_failed self.old ≡ false → (out : Mappings)
             → (abstract_of S.view F.backing self.old out).is_sound → IsErr result ↔ HasPinnedMapping out }
         ensures pinned { is_failed self.old ≡ false → IsErr result ↔ HasPinnedTable self.old }
         ensures done { OnOk result (self.new ≡ record self.old { data_file = file }) }

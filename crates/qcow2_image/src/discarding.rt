@@ -17,7 +17,7 @@ ghost use Rattle.qcow2_image.specs.declared.prepared.Prepared.{Prepared};
 ghost use Rattle.qcow2_image.specs.L1Entries.{HasOwnTable};
 ghost use Rattle.qcow2_image.specs.PinnedTables.{RespectsPins};
 ghost use Rattle.qcow2_image.specs.Image.{ImageStays, is_placed_by_guest, is_writable, size_of};
-ghost use Rattle.qcow2_image.specs.ImageInvariant.{ImageInvariant, pending_in, listed_run};
+ghost use Rattle.qcow2_image.specs.ImageInvariant.{ImageInvariant, pending_in, listed_run, Mappings};
 ghost use Rattle.qcow2_image.specs.Refusals.{FreesRefused, MayFailOn, MayFailPreparing, passes as passes_size};
 ghost use Rattle.qcow2_image.specs.ClearingCalls.{ClearsInTable, ClearsStep, ClearsSoundly};
 ghost use Rattle.qcow2_image.specs.ClearingCalls.{FailsToClear};
@@ -265,12 +265,12 @@ impl<S: Storage, F: WrappedFormat<S>> Qcow2<S, F> {
         requires some { from < to }
         ensures step { ImageStep S.view self.old self.new }
         ensures fails { ImageFails S.view F.backing self.old self.new result (MayFailPreparing self.new) }
-        ensures sound { (out : List (Option Prepared))
+        ensures sound { (out : Mappings)
             → ImageInvariant S.view F.backing (pending_in S.view F.backing self.old out) self.old out
             → ClearsInTable S.view F.backing how from to self.old self.new out result }
         ensures l1_place { l1_index_of self.old.file.header.fields from < entry_count self.old.l1_table
             → OnOk result (KeepsL1Place self.old.file.header.fields self.new.file.header.fields) }
-        ensures freed { (out : List (Option Prepared))
+        ensures freed { (out : Mappings)
             → ImageInvariant S.view F.backing (pending_in S.view F.backing self.old out) self.old out
             → IsClearable self.old.file.header.fields how from to → IfErr result (FreesRefused self.new) }
         ensures pinned { HasOwnTable self.old from → RespectsPins self.old from result }
@@ -287,7 +287,7 @@ impl<S: Storage, F: WrappedFormat<S>> Qcow2<S, F> {
         requires some { from < to }
         ensures step { ImageStep S.view self.old self.new }
         ensures fails { ImageFails S.view F.backing self.old self.new result (MayFailPreparing self.new) }
-        ensures sound { (out : List (Option Prepared))
+        ensures sound { (out : Mappings)
             → ImageInvariant S.view F.backing (pending_in S.view F.backing self.old out) self.old out
             → ClearsInTable S.view F.backing how from to self.old self.new out result }
         ensures l1_place { l1_index_of self.old.file.header.fields from < entry_count self.old.l1_table

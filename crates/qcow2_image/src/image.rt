@@ -1,3 +1,4 @@
+ghost use Rattle.qcow2_image.specs.ImageInvariant.{Mappings, in_image};
 ghost use Rattle.qcow2_image.specs.ImageSteps.{CallStep, ImageFails, ImageStep};
 ghost use Rattle.qcow2_alloc.specs.BehindHeader.{LeaveHeaderCluster};
 ghost use Rattle.qcow2_image.specs.BehindHeader.{IsL1TableBehind, NamesTablesBehind};
@@ -353,7 +354,7 @@ impl<S: Storage, F: WrappedFormat<S>> Qcow2<S, F> {
     /// The size of the guest's disk, in bytes.
     pub fn size(&self) -> u64
         ensures value { result ≡ size_of self.now }
-        ensures sees { (out : List (Option Prepared)) → (abstract_of S.view F.backing self.now out).is_sound
+        ensures sees { (out : Mappings) → (abstract_of S.view F.backing self.now out).is_sound
             → result ≡ (guest_of (abstract_of S.view F.backing self.now out)).disk.size }
     {
         self.file.header.size()
@@ -435,7 +436,7 @@ impl<S: Storage, F: WrappedFormat<S>> Qcow2<S, F> {
         ensures sees { FlushesImage S.view F.backing self.old self.new result }
         ensures emptied { IsTrue (is_writable self.old) → OnOk result (HasNothingToFree self.new) }
         ensures writes { (p : Pending)
-            → ImageInvariant S.view F.backing (with_listed p self.old.file.free_list) self.old []
+            → ImageInvariant S.view F.backing (with_listed p self.old.file.free_list) self.old (in_image [])
             → WritesBack S.view F.backing p self.old self.new result }
         ensures quiet { is_writable self.old ≡ false → ReadsQuietly S.view self.old self.new }
     {
@@ -477,10 +478,10 @@ impl<S: Storage, F: WrappedFormat<S>> Qcow2<S, F> {
         ensures offsets { KeepsOffsets self.old self.new }
         ensures cause { IfErr result IsFaultOrLimit }
         ensures emptied { IsTrue (is_writable self.old) → OnOk result (HasNothingToFree self.new) }
-        ensures frees { (p : Pending) (out : List (Option Prepared))
+        ensures frees { (p : Pending) (out : Mappings)
             → ImageInvariant S.view F.backing (with_listed p self.old.file.free_list) self.old out
             → FreesListed S.view F.backing p self.old self.new out result }
-        ensures faults { (p : Pending) (out : List (Option Prepared))
+        ensures faults { (p : Pending) (out : Mappings)
             → ImageInvariant S.view F.backing (with_listed p self.old.file.free_list) self.old out
             → IfErr result IsFault }
         ensures idle { HasNothingToFree self.old → (result ≡ Ok tt) × (self.new ≡ self.old) }
@@ -504,7 +505,7 @@ impl<S: Storage, F: WrappedFormat<S>> Qcow2<S, F> {
         ensures header_cluster { PreservesHeaderCluster S.view self.old self.new }
         ensures marks { MarksFailed self.old self.new result }
         ensures emptied { IsTrue (is_writable self.old) → OnOk result (HasNothingToFree self.new) }
-        ensures frees { (out : List (Option Prepared))
+        ensures frees { (out : Mappings)
             → ImageInvariant S.view F.backing (pending_in S.view F.backing self.old out) self.old out
             → EndsFreeing S.view F.backing self.old self.new out result }
         ensures idle { self.old.file.free_list ≡ [] → (result ≡ Ok tt) × (self.new ≡ self.old) }
@@ -522,9 +523,9 @@ impl<S: Storage, F: WrappedFormat<S>> Qcow2<S, F> {
         ensures list { self.new.file.free_list ≡ self.old.file.free_list }
         ensures faults { SameFaults S.view F.backing self.old self.new }
         ensures storage { storage_of self.new.file.storage ≡ storage_of self.old.file.storage }
-        ensures keeps { (p : Pending) (out : List (Option Prepared)) → ImageInvariant S.view F.backing p self.old out
+        ensures keeps { (p : Pending) (out : Mappings) → ImageInvariant S.view F.backing p self.old out
             → InternalStep S.view F.backing p p self.old self.new out }
-        ensures known { (p : Pending) (out : List (Option Prepared)) → ImageInvariant S.view F.backing p self.old out
+        ensures known { (p : Pending) (out : Mappings) → ImageInvariant S.view F.backing p self.old out
             → known_in S.view self.new.file ≡ known_in S.view self.old.file }
         ensures rest { self.new ≡ record self.old {
           file = record self.old.file {

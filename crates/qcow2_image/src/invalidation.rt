@@ -6,7 +6,7 @@ ghost use Rattle.qcow2_alloc.specs.ImageFile.{view_in, contents_in, HasReftable}
 ghost use Rattle.qcow2_laws.specs.CrashInvariant.{Pending};
 ghost use Rattle.qcow2_metadata.specs.Header.{entries_per_cluster, header, with_fields, with_tables_of};
 ghost use Rattle.qcow2_image.specs.Image.{is_writable, HasNothingToFree};
-ghost use Rattle.qcow2_image.specs.ImageInvariant.{HasL1Table, ImageInvariant};
+ghost use Rattle.qcow2_image.specs.ImageInvariant.{HasL1Table, ImageInvariant, Mappings};
 ghost use Rattle.qcow2_image.specs.ImageSteps.{ImageFails, ImageStep};
 ghost use Rattle.qcow2_image.specs.Invalidated.{ArePlacesFor, DropsCached, RespectsPrepared, HoldsNoTable, IsAsStored};
 ghost use Rattle.qcow2_image.specs.Invalidated.{IsAtRest, KeepsTables, ReplacesTables};
@@ -75,7 +75,7 @@ impl<S: Storage, F: WrappedFormat<S>> Qcow2<S, F> {
         ensures list { HasNothingToFree self.new }
         ensures dropped { OnOk result (HoldsNoTable self.new) }
         ensures read { (view_in S.view self.old.file).is_honest → OnOk result (IsAsStored S.view F.backing self.new) }
-        ensures keeps { IsAtRest S.view self.old → (p : Pending) (out : List (Option Prepared))
+        ensures keeps { IsAtRest S.view self.old → (p : Pending) (out : Mappings)
             → ImageInvariant S.view F.backing p self.old out → InternalStep S.view F.backing p p self.old self.new out }
     {
         self.drop_cached()?;
@@ -91,7 +91,7 @@ impl<S: Storage, F: WrappedFormat<S>> Qcow2<S, F> {
         ensures prepared { RespectsPrepared self.old result }
         ensures why { IfErr result (IsReasonAgainstReading S.view self.old self.new) }
         ensures dropped { OnOk result (HoldsNoTable self.new) }
-        ensures keeps { IsAtRest S.view self.old → (p : Pending) (out : List (Option Prepared))
+        ensures keeps { IsAtRest S.view self.old → (p : Pending) (out : Mappings)
             → ImageInvariant S.view F.backing p self.old out → InternalStep S.view F.backing p p self.old self.new out }
     {
         let _forgotten = self.file.free_list.take();
@@ -113,7 +113,7 @@ impl<S: Storage, F: WrappedFormat<S>> Qcow2<S, F> {
             (header (contents_in S.view self.old.file)) ≡ places.fields) }
         ensures why { (view_in S.view self.old.file).is_honest → IfErr result (IsReasonAgainstPlaces
             self.old.file.header.fields (contents_in S.view self.old.file) (is_writable self.old)) }
-        ensures keeps { (p : Pending) (out : List (Option Prepared)) → ImageInvariant S.view F.backing p self.old out
+        ensures keeps { (p : Pending) (out : Mappings) → ImageInvariant S.view F.backing p self.old out
             → InternalStep S.view F.backing p p self.old self.new out }
     {
         self.invalidate_data_file()?;
@@ -130,7 +130,7 @@ impl<S: Storage, F: WrappedFormat<S>> Qcow2<S, F> {
             (header (contents_in S.view self.old.file)) ≡ places.fields) }
         ensures why { (view_in S.view self.old.file).is_honest → IfErr result (IsReasonAgainstPlaces
             self.old.file.header.fields (contents_in S.view self.old.file) (is_writable self.old)) }
-        ensures keeps { (p : Pending) (out : List (Option Prepared)) → ImageInvariant S.view F.backing p self.old out
+        ensures keeps { (p : Pending) (out : Mappings) → ImageInvariant S.view F.backing p self.old out
             → InternalStep S.view F.backing p p self.old self.new out }
     {
         self.file.storage.invalidate_cache()?;
@@ -156,7 +156,7 @@ impl<S: Storage, F: WrappedFormat<S>> Qcow2<S, F> {
             × IfSome self.new.allocator (λ a. HasReftable S.view self.new.file a.reftable)) }
         ensures why { (view_in S.view self.old.file).is_honest → IfErr result (IsReasonAgainstTables
             places.fields (contents_in S.view self.old.file) (is_writable self.old)) }
-        ensures keeps { places.fields ≡ self.old.file.header.fields → (p : Pending) (out : List (Option Prepared))
+        ensures keeps { places.fields ≡ self.old.file.header.fields → (p : Pending) (out : Mappings)
             → ImageInvariant S.view F.backing p self.old out
             → InternalStep S.view F.backing p p self.old self.new out }
     {
@@ -180,7 +180,7 @@ impl<S: Storage, F: WrappedFormat<S>> Qcow2<S, F> {
             × IfSome self.new.allocator (λ a. HasReftable S.view self.new.file a.reftable)) }
         ensures why { (view_in S.view self.old.file).is_honest → IfErr result (IsReasonAgainstTables
             self.old.file.header.fields (contents_in S.view self.old.file) (is_writable self.old)) }
-        ensures keeps { (p : Pending) (out : List (Option Prepared)) → ImageInvariant S.view F.backing p self.old out
+        ensures keeps { (p : Pending) (out : Mappings) → ImageInvariant S.view F.backing p self.old out
             → InternalStep S.view F.backing p p self.old self.new out }
     {
         let table = Self::load_l1_table(&mut self.file)?;

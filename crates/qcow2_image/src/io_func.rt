@@ -19,7 +19,7 @@ ghost use Rattle.image_access.specs.Contents.{overwritten};
 ghost use Rattle.qcow2_image.specs.CallParts.{WritesData, WritesOwnData};
 ghost use Rattle.qcow2_image.specs.HeldMappings.{FitsTables, IsCompressedInTables, KeepsHeld, ReadsAs};
 ghost use Rattle.qcow2_image.specs.InternalSteps.{InternalStep};
-ghost use Rattle.qcow2_image.specs.ImageInvariant.{IsHonestBacking, ImageInvariant, backing_bytes, disk_of};
+ghost use Rattle.qcow2_image.specs.ImageInvariant.{IsHonestBacking, ImageInvariant, backing_bytes, disk_of, Mappings};
 ghost use Rattle.qcow2_image.specs.declared.mapping.MappingKind.TheVariants.{Eof, Raw};
 ghost use Rattle.qcow2_image.specs.declared.prepared.Prepared.{Prepared};
 ghost use Rattle.qcow2_image.specs.Image.{size_of};
@@ -160,12 +160,12 @@ impl<S: Storage, F: WrappedFormat<S>> Qcow2<S, F> {
         ensures step { ReadingStep S.view self.old self.new }
         ensures fails { FailsUnlimited S.view F.backing self.old self.new result (MayFailReading kind.now) }
         ensures allocator { self.new.allocator ≡ self.old.allocator }
-        ensures keeps { (p : Pending) (out : List (Option Prepared)) → ImageInvariant S.view F.backing p self.old out
+        ensures keeps { (p : Pending) (out : Mappings) → ImageInvariant S.view F.backing p self.old out
             → InternalStep S.view F.backing p p self.old self.new out }
         ensures outdated { result ≡ Err OutdatedMapping → (kind.now ≡ Eof) × (self.new ≡ self.old) }
-        ensures shows { (p : Pending) (out : List (Option Prepared)) → ImageInvariant S.view F.backing p self.old out
+        ensures shows { (p : Pending) (out : Mappings) → ImageInvariant S.view F.backing p self.old out
             → IsMappedAs S.view self.old offset kind.now (length bytes.old)
-            → IfOk result (λ done. Shows (disk_of S.view F.backing self.new) offset bytes.new) }
+            → IfOk result (λ done. Shows (disk_of S.view F.backing out.place self.new) offset bytes.new) }
         ensures tables { KeepsHeld self.old self.new }
         ensures quiet { WritesNothing S.view self.old.file.storage self.new.file.storage }
         ensures reads { OnOk result (ReadsAs S.view self.old self.new kind.now bytes.new) }
@@ -194,7 +194,7 @@ impl<S: Storage, F: WrappedFormat<S>> Qcow2<S, F> {
         ensures file { self.new.file ≡ self.old.file }
         ensures allocator { self.new.allocator ≡ self.old.allocator }
         ensures table { self.new.l1_table ≡ self.old.l1_table }
-        ensures keeps { (p : Pending) (out : List (Option Prepared)) → ImageInvariant S.view F.backing p self.old out
+        ensures keeps { (p : Pending) (out : Mappings) → ImageInvariant S.view F.backing p self.old out
             → InternalStep S.view F.backing p p self.old self.new out }
         ensures reads { IsHonestBacking S.view F.backing self.old.backing
             → IfOk result (λ done. (length bytes.new ≡ length bytes.old)

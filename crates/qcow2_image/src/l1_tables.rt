@@ -15,7 +15,7 @@ ghost use Rattle.qcow2_laws.specs.CrashInvariant.{Pending};
 ghost use Rattle.qcow2_image.specs.declared.prepared.Prepared.{Prepared};
 ghost use Rattle.qcow2_image.specs.Found.{l1_index_of};
 ghost use Rattle.qcow2_image.specs.Image.{HasNothingToFree, is_writable};
-ghost use Rattle.qcow2_image.specs.ImageInvariant.{ImageInvariant, pending_in};
+ghost use Rattle.qcow2_image.specs.ImageInvariant.{ImageInvariant, pending_in, Mappings};
 ghost use Rattle.qcow2_image.specs.LongerTables.{run_of_table, listed, with_table, IsLongerL1, StandsWhole};
 ghost use Rattle.qcow2_image.specs.LongerTables.{PlacesTable, NamesTable, NamesTaken, Lengthens};
 ghost use Rattle.qcow2_image.specs.LongerTables.{MakesEntry};
@@ -39,7 +39,7 @@ impl<S: Storage, F: WrappedFormat<S>> Qcow2<S, F> {
         requires writable { IsTrue (is_writable self.old) }
         ensures step { ImageStep S.view self.old self.new }
         ensures fails { ImageFails S.view F.backing self.old self.new result (MayFailOn self.new) }
-        ensures sound { (out : List (Option Prepared))
+        ensures sound { (out : Mappings)
             → ImageInvariant S.view F.backing (pending_in S.view F.backing self.old out) self.old out
             → EntrySoundly S.view F.backing offset self.old self.new out result
             (MakesEntry S.view F.backing self.old self.new out result) }
@@ -66,12 +66,12 @@ impl<S: Storage, F: WrappedFormat<S>> Qcow2<S, F> {
         ensures step { ImageStep S.view self.old self.new }
         ensures recorded { OnOk result (IsTrue self.new.file.caches.is_changed) }
         ensures cause { IsTrue (is_writable self.old) → IfErr result (MayFailOn self.new) }
-        ensures limit { (p : Pending) (out : List (Option Prepared)) → ImageInvariant S.view F.backing p self.old out
+        ensures limit { (p : Pending) (out : Mappings) → ImageInvariant S.view F.backing p self.old out
             → (offset : ℕ) → index ≡ l1_index_of self.old.file.header.fields offset
             → IfLimit result (IsLimitedInternal S.view F.backing p (offset + 1) self.old out) }
-        ensures fault { IsTrue (is_writable self.old) → (p : Pending) (out : List (Option Prepared))
+        ensures fault { IsTrue (is_writable self.old) → (p : Pending) (out : Mappings)
             → ImageInvariant S.view F.backing p self.old out → IfErr result IsFaultOrLimit }
-        ensures lengthens { (p : Pending) (out : List (Option Prepared))
+        ensures lengthens { (p : Pending) (out : Mappings)
             → ImageInvariant S.view F.backing p self.old out
             → Lengthens S.view F.backing p self.old self.new out result }
         ensures length { OnOk result (entry_count self.new.l1_table ≡ max (entry_count self.old.l1_table) (index + 1)) }
@@ -118,7 +118,7 @@ impl<S: Storage, F: WrappedFormat<S>> Qcow2<S, F> {
         ensures recorded { OnOk result (IsTrue self.new.file.caches.is_changed) }
         ensures step { ImageStepWhere S.view (table.cluster_bits ≡ self.old.l1_table.cluster_bits) self.old self.new }
         ensures cause { IsTrue (is_writable self.old) → IfErr result (MayFailOn self.new) }
-        ensures sound { (p : Pending) (out : List (Option Prepared)) → ImageInvariant S.view F.backing p self.old out
+        ensures sound { (p : Pending) (out : Mappings) → ImageInvariant S.view F.backing p self.old out
             → IsLongerL1 self.old table → EntersTable S.view F.backing p table self.old self.new out result }
         ensures entries { OnOk result (entry_count self.new.l1_table ≡ entry_count table) }
         ensures placed { entry_count table ≤ 4194304 → table.cluster_bits ≡ self.old.file.header.fields.cluster_bits
@@ -143,11 +143,11 @@ impl<S: Storage, F: WrappedFormat<S>> Qcow2<S, F> {
         ensures fails { ImageFails S.view F.backing self.old self.new result (MayFailOn self.new) }
         ensures step { ImageStepWhere S.view
             ((table.cluster_bits ≡ self.old.l1_table.cluster_bits) × (0 < taken.first_cluster)) self.old self.new }
-        ensures fault { (p : Pending) (out : List (Option Prepared))
+        ensures fault { (p : Pending) (out : Mappings)
             → ImageInvariant S.view F.backing (with_table p table taken.first_cluster) self.old out
             → IsLongerL1 self.old table → IfErr result IsFault }
         ensures allocator { self.new.allocator ≡ self.old.allocator }
-        ensures names { (p : Pending) (out : List (Option Prepared))
+        ensures names { (p : Pending) (out : Mappings)
             → ImageInvariant S.view F.backing (with_table p table taken.first_cluster) self.old out
             → IsTrue self.old.file.caches.is_changed → IsLongerL1 self.old table
             → NamesTaken S.view F.backing p self.old self.new out table taken result }
@@ -165,11 +165,11 @@ impl<S: Storage, F: WrappedFormat<S>> Qcow2<S, F> {
         ensures fails { ImageFails S.view F.backing self.old self.new result (MayFailOn self.new) }
         ensures step { ImageStepWhere S.view
             ((table.cluster_bits ≡ self.old.l1_table.cluster_bits) × (0 < cluster)) self.old self.new }
-        ensures fault { (p : Pending) (out : List (Option Prepared))
+        ensures fault { (p : Pending) (out : Mappings)
             → ImageInvariant S.view F.backing (with_table p table cluster) self.old out → IsLongerL1 self.old table
             → IfErr result IsFault }
         ensures allocator { self.new.allocator ≡ self.old.allocator }
-        ensures names { (p : Pending) (out : List (Option Prepared))
+        ensures names { (p : Pending) (out : Mappings)
             → ImageInvariant S.view F.backing (with_table p table cluster) self.old out
             → IsTrue self.old.file.caches.is_changed → IsLongerL1 self.old table
             → NamesTable S.view F.backing p self.old self.new out table cluster result }
@@ -191,7 +191,7 @@ impl<S: Storage, F: WrappedFormat<S>> Qcow2<S, F> {
         ensures notes { KeepsFileNotes S.view self.old.file self.new.file }
         ensures header_cluster { table.old.cluster_bits ≡ self.old.l1_table.cluster_bits → 0 < cluster
             → PreservesHeaderCluster S.view self.old self.new }
-        ensures fault { (p : Pending) (out : List (Option Prepared))
+        ensures fault { (p : Pending) (out : Mappings)
             → ImageInvariant S.view F.backing (with_table p table.old cluster) self.old out
             → IsHostCluster table.old.cluster_bits cluster → IfErr result IsFault }
         ensures rest { self.new ≡ record self.old {
@@ -201,7 +201,7 @@ impl<S: Storage, F: WrappedFormat<S>> Qcow2<S, F> {
           };
         } }
         ensures recorded { IsTrue self.old.file.caches.is_changed → IsTrue self.new.file.caches.is_changed }
-        ensures places { (p : Pending) (out : List (Option Prepared))
+        ensures places { (p : Pending) (out : Mappings)
             → ImageInvariant S.view F.backing (with_table p table.old cluster) self.old out
             → IsLongerL1 self.old table.old
             → PlacesTable S.view F.backing
@@ -225,7 +225,7 @@ impl<S: Storage, F: WrappedFormat<S>> Qcow2<S, F> {
         ensures step { ImageStepWhere S.view (KeepsL1TableBehind self.old.l1_table table) self.old self.new }
         ensures fault { IfErr result IsFault }
         ensures allocator { self.new.allocator ≡ self.old.allocator }
-        ensures names { (p : Pending) (out : List (Option Prepared))
+        ensures names { (p : Pending) (out : Mappings)
             → ImageInvariant S.view F.backing (with_table p table cluster) self.old out
             → IsTrue self.old.file.caches.is_changed → StandsWhole S.view self.old table cluster
             → NamesTable S.view F.backing p self.old self.new out table cluster result }

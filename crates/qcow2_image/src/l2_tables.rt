@@ -17,7 +17,7 @@ ghost use Rattle.qcow2_laws.specs.Clusters.{RbDependsOnL2};
 ghost use Rattle.qcow2_image.specs.declared.prepared.Prepared.{Prepared};
 ghost use Rattle.qcow2_image.specs.Found.{l1_index_of};
 ghost use Rattle.qcow2_image.specs.InternalSteps.{Ensures};
-ghost use Rattle.qcow2_image.specs.ImageInvariant.{ImageInvariant, pending_in};
+ghost use Rattle.qcow2_image.specs.ImageInvariant.{ImageInvariant, pending_in, Mappings};
 ghost use Rattle.qcow2_image.specs.L1Entries.{L1EntryOverflows, HasOwnEntry, HasOwnTable, HasNearEntry};
 ghost use Rattle.qcow2_image.specs.ListedClusters.{KeepsList};
 ghost use Rattle.qcow2_image.specs.NewTables.{IsFaultOrKeepsL1Table, SaysKnown, IsStored, StandsReady, MayName};
@@ -43,7 +43,7 @@ impl<S: Storage, F: WrappedFormat<S>> Qcow2<S, F> {
         ensures step { ImageStep S.view self.old self.new }
         ensures fails { ImageFails S.view F.backing self.old self.new result (MayFailOn self.new) }
         ensures elsewhere { IfOk result (λ table. 0 < table) }
-        ensures sound { (out : List (Option Prepared))
+        ensures sound { (out : Mappings)
             → ImageInvariant S.view F.backing (pending_in S.view F.backing self.old out) self.old out
             → TableSoundly S.view F.backing offset self.old self.new out result }
         ensures l1_place { l1_index_of self.old.file.header.fields offset < entry_count self.old.l1_table
@@ -91,7 +91,7 @@ impl<S: Storage, F: WrappedFormat<S>> Qcow2<S, F> {
         ensures fails { ImageFails S.view F.backing self.old self.new result (MayFailOn self.new) }
         ensures keeps_rest { KeepsRestOn self.old self.new }
         ensures elsewhere { IfOk result (λ table. 0 < table) }
-        ensures sound { (p : Pending) (out : List (Option Prepared)) → ImageInvariant S.view F.backing p self.old out
+        ensures sound { (p : Pending) (out : Mappings) → ImageInvariant S.view F.backing p self.old out
             → EnsuresSoundly S.view F.backing p offset self.old self.new out result
             (Ensures S.view F.backing p self.old self.new out offset result) }
         ensures cached { IfOk result (λ table. IsSome (l2_at self.new.file.caches table)) }
@@ -120,7 +120,7 @@ impl<S: Storage, F: WrappedFormat<S>> Qcow2<S, F> {
         ensures fails { ImageFails S.view F.backing self.old self.new result (MayFailOn self.new) }
         ensures keeps_rest { KeepsRestOn self.old self.new }
         ensures elsewhere { IfOk result (λ table. 0 < table) }
-        ensures sound { (p : Pending) (out : List (Option Prepared)) → ImageInvariant S.view F.backing p self.old out
+        ensures sound { (p : Pending) (out : Mappings) → ImageInvariant S.view F.backing p self.old out
             → OwnsSoundly S.view F.backing p offset self.old self.new out result
             (OwnsTable S.view F.backing p self.old self.new out (l1_index_of self.old.file.header.fields offset) result) }
         ensures quiet { HasOwnTable self.old offset → self.new ≡ self.old }
@@ -155,7 +155,7 @@ impl<S: Storage, F: WrappedFormat<S>> Qcow2<S, F> {
         ensures elsewhere { IfOk result (λ table. 0 < table) }
         ensures own { OnOk result (HasOwnEntry self.new index) }
         ensures l1_table { IfErr result (IsFaultOrKeepsL1Table self.old self.new) }
-        ensures sound { (p : Pending) (out : List (Option Prepared)) → ImageInvariant S.view F.backing p self.old out
+        ensures sound { (p : Pending) (out : Mappings) → ImageInvariant S.view F.backing p self.old out
             → NamesShared S.view self.old index old → EntersSoundly S.view F.backing p index self.old out result
             (OwnsTable S.view F.backing p self.old self.new out index result) }
     {
@@ -183,7 +183,7 @@ impl<S: Storage, F: WrappedFormat<S>> Qcow2<S, F> {
         ensures elsewhere { IfOk result (λ table. 0 < table) }
         ensures own { OnOk result (HasOwnEntry self.new index) }
         ensures l1_table { IfErr result (IsFaultOrKeepsL1Table self.old self.new) }
-        ensures sound { (p : Pending) (out : List (Option Prepared)) → ImageInvariant S.view F.backing p self.old out
+        ensures sound { (p : Pending) (out : Mappings) → ImageInvariant S.view F.backing p self.old out
             → NamesShared S.view self.old index old
             → SaysKnown self.old.file.header.fields (known_in S.view self.old.file) index table
             → EntersSoundly S.view F.backing p index self.old out result
@@ -212,7 +212,7 @@ impl<S: Storage, F: WrappedFormat<S>> Qcow2<S, F> {
         ensures elsewhere { IfOk result (λ table. 0 < table) }
         ensures own { OnOk result (HasOwnEntry self.new index) }
         ensures l1_table { IfErr result (IsFaultOrKeepsL1Table self.old self.new) }
-        ensures sound { (p : Pending) (out : List (Option Prepared)) → ImageInvariant S.view F.backing p self.old out
+        ensures sound { (p : Pending) (out : Mappings) → ImageInvariant S.view F.backing p self.old out
             → MayName S.view self.old index
             → SaysKnown self.old.file.header.fields (known_in S.view self.old.file) index table
             → EntersSoundly S.view F.backing p index self.old out result
@@ -245,7 +245,7 @@ impl<S: Storage, F: WrappedFormat<S>> Qcow2<S, F> {
         ensures step { ImageStepWhere S.view (0 < cluster) self.old self.new }
         ensures fails { ImageFails S.view F.backing self.old self.new result (MayFailOn self.new) }
         ensures keeps_rest { KeepsRest self.old self.new }
-        ensures may_fail { (p : Pending) (out : List (Option Prepared))
+        ensures may_fail { (p : Pending) (out : Mappings)
             → ImageInvariant S.view F.backing (with_new_tables p (one_at cluster)) self.old out
             → SaysKnown self.old.file.header.fields (known_in S.view self.old.file) index table
             → HasNearEntry self.old index → IsHostCluster self.old.file.header.fields.cluster_bits cluster
@@ -254,7 +254,7 @@ impl<S: Storage, F: WrappedFormat<S>> Qcow2<S, F> {
         ensures l1_table { IfErr result (IsFaultOrKeepsL1Table self.old self.new) }
         ensures list { self.new.file.free_list ≡ self.old.file.free_list }
         ensures own { 0 < cluster → OnOk result (HasOwnEntry self.new index) }
-        ensures writes { (p : Pending) (out : List (Option Prepared))
+        ensures writes { (p : Pending) (out : Mappings)
             → ImageInvariant S.view F.backing (with_new_tables p (one_at cluster)) self.old out
             → MayName S.view self.old index → IsTrue self.old.file.caches.is_changed
             → SaysKnown self.old.file.header.fields (known_in S.view self.old.file) index table
@@ -275,7 +275,7 @@ impl<S: Storage, F: WrappedFormat<S>> Qcow2<S, F> {
         ensures step { ImageStep S.view self.old self.new }
         ensures fails { ImageFails S.view F.backing self.old self.new result (MayFailOn self.new) }
         ensures keeps_rest { KeepsRest self.old self.new }
-        ensures fault { (p : Pending) (out : List (Option Prepared)) → ImageInvariant S.view F.backing p self.old out → IfErr result IsFault }
+        ensures fault { (p : Pending) (out : Mappings) → ImageInvariant S.view F.backing p self.old out → IfErr result IsFault }
         ensures rest { self.new ≡ record self.old {
           file = record self.old.file {
             storage = self.new.file.storage;
@@ -283,7 +283,7 @@ impl<S: Storage, F: WrappedFormat<S>> Qcow2<S, F> {
           };
         } }
         ensures recorded { IsTrue self.old.file.caches.is_changed → IsTrue self.new.file.caches.is_changed }
-        ensures stores { (p : Pending) (out : List (Option Prepared)) → ImageInvariant S.view F.backing p self.old out
+        ensures stores { (p : Pending) (out : Mappings) → ImageInvariant S.view F.backing p self.old out
             → Stores S.view F.backing p self.old self.new out result }
         ensures tables { order_of self.old.file.caches ≢ RbDependsOnL2 → self.new.file.caches.l2 ≡ self.old.file.caches.l2 }
     {
@@ -297,7 +297,7 @@ impl<S: Storage, F: WrappedFormat<S>> Qcow2<S, F> {
         ensures step { ImageStepWhere S.view (0 < cluster) self.old self.new }
         ensures fails { ImageFails S.view F.backing self.old self.new result (MayFailOn self.new) }
         ensures keeps_rest { KeepsRest self.old self.new }
-        ensures may_fail { (p : Pending) (out : List (Option Prepared)) → ImageInvariant S.view F.backing p self.old out
+        ensures may_fail { (p : Pending) (out : Mappings) → ImageInvariant S.view F.backing p self.old out
             → 0 < p.new_tables cluster → IsTableOf self.old.file.header.fields table → IsStored S.view self.old
             → IsHostCluster table.cluster_bits cluster → IfErr result (MayFailLooking (HasPinnedMapping out)) }
         ensures rest { self.new ≡ record self.old {
@@ -308,7 +308,7 @@ impl<S: Storage, F: WrappedFormat<S>> Qcow2<S, F> {
         } }
         ensures recorded { IsTrue self.old.file.caches.is_changed → IsTrue self.new.file.caches.is_changed }
         ensures long { length table.bytes ≡ 2 ^ table.cluster_bits }
-        ensures places { (p : Pending) (out : List (Option Prepared)) → ImageInvariant S.view F.backing p self.old out
+        ensures places { (p : Pending) (out : Mappings) → ImageInvariant S.view F.backing p self.old out
             → 0 < p.new_tables cluster → IsTableOf self.old.file.header.fields table → IsStored S.view self.old
             → PlacesNewTable S.view F.backing p self.old self.new out cluster table.bytes result }
     {
@@ -335,7 +335,7 @@ impl<S: Storage, F: WrappedFormat<S>> Qcow2<S, F> {
         ensures fault { IfErr result IsFault }
         ensures list { self.new.file.free_list ≡ self.old.file.free_list }
         ensures own { 0 < cluster → OnOk result (HasOwnEntry self.new index) }
-        ensures names { (p : Pending) (out : List (Option Prepared)) (table : L2TableView)
+        ensures names { (p : Pending) (out : Mappings) (table : L2TableView)
             → ImageInvariant S.view F.backing (with_new_tables p (one_at cluster)) self.old out
             → MayName S.view self.old index → IsTrue self.old.file.caches.is_changed
             → SaysKnown self.old.file.header.fields (known_in S.view self.old.file) index table

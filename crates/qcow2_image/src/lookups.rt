@@ -22,7 +22,7 @@ ghost use Rattle.qcow2_image.specs.Found.{l1_index_of, l2_index_of};
 ghost use Rattle.qcow2_image.specs.HeldMappings.{IsCompressedInTables, IsHeldFrom, IsHeldRun, named_place};
 ghost use Rattle.qcow2_image.specs.MayFail.{IsSpecial};
 ghost use Rattle.qcow2_image.specs.PinnedTables.{own_table};
-ghost use Rattle.qcow2_image.specs.ImageInvariant.{HasL1Table, ImageInvariant};
+ghost use Rattle.qcow2_image.specs.ImageInvariant.{HasL1Table, ImageInvariant, Mappings};
 ghost use Rattle.qcow2_metadata.specs.Header.{cluster_size};
 ghost use Rattle.qcow2_image.specs.declared.mapping.MappingKind.TheVariants.{Eof};
 ghost use Rattle.qcow2_image.specs.Unwritten.{LooksQuietly, OnlyLooks};
@@ -154,7 +154,7 @@ impl<S: Storage, F: WrappedFormat<S>> Qcow2<S, F> {
     // The cluster of the L2 table of an offset, or None if there is none.
     fn l2_cluster(&self, offset: u64) -> Result<Option<HostCluster>, ImageError>
         ensures cause { IfErr result (λ e. (e ≡ UnalignedTable) × IsTableUnaligned self.now offset) }
-        ensures reads { (p : Pending) (out : List (Option Prepared)) → ImageInvariant S.view F.backing p self.now out → IsOk result }
+        ensures reads { (p : Pending) (out : Mappings) → ImageInvariant S.view F.backing p self.now out → IsOk result }
         ensures names { HasL1Table S.view F.backing self.now.file self.now.l1_table → IfOk result (NamesL2Table S.view self.now offset) }
         ensures elsewhere { IfOk result (λ table. IfSome table (λ cluster. 0 < cluster)) }
         ensures faults { IfErr result IsNotOfStorage }

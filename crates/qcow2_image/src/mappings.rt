@@ -34,7 +34,7 @@ ghost use Rattle.qcow2_image.specs.declared.image.Qcow2.{Qcow2};
 ghost use Rattle.qcow2_image.specs.Found.{l1_index_of, l2_index_of};
 ghost use Rattle.qcow2_image.specs.InternalSteps.{DropsNothing, HoldsTable, EntersCluster, EntersMapping, FreesLater};
 ghost use Rattle.qcow2_image.specs.InternalSteps.{Unpins, old_data_by, freed_by};
-ghost use Rattle.qcow2_image.specs.ImageInvariant.{ImageInvariant, listed_run, pending_in};
+ghost use Rattle.qcow2_image.specs.ImageInvariant.{ImageInvariant, listed_run, pending_in, Mappings};
 ghost use Rattle.qcow2_metadata.specs.Header.{entries_per_cluster, cluster_size};
 ghost use Rattle.qcow2_metadata.specs.Cover.{cover};
 ghost use Rattle.qcow2_image.specs.declared.mapping.Place.TheVariants.{Image};
@@ -230,14 +230,14 @@ impl<S: Storage, F: WrappedFormat<S>> Qcow2<S, F> {
         requires writable { IsTrue (is_writable self.old) }
         ensures step { ImageStep S.view self.old self.new }
         ensures fails { ImageFails S.view F.backing self.old self.new result (MayFailPreparing self.new) }
-        ensures sound { 0 < length → (out : List (Option Prepared))
+        ensures sound { 0 < length → (out : Mappings)
             → ImageInvariant S.view F.backing (pending_in S.view F.backing self.old out) self.old out
             → PreparesSoundly S.view F.backing offset length overwrite self.old self.new out result }
         ensures l1_place { l1_index_of self.old.file.header.fields offset < entry_count self.old.l1_table
             → OnOk result (KeepsL1Place self.old.file.header.fields self.new.file.header.fields) }
         ensures own { IfOk result (IsOwn self.old) }
         ensures some { IfOk result (λ p. 0 < length → HasBytesBehind self.new p) }
-        ensures freed { 0 < length → (out : List (Option Prepared))
+        ensures freed { 0 < length → (out : Mappings)
             → ImageInvariant S.view F.backing (pending_in S.view F.backing self.old out) self.old out
             → IfErr result (FreesRefused self.new) }
         ensures pinned { HasOwnTable self.old offset → PreparesUnpinned self.old offset result }
@@ -260,7 +260,7 @@ impl<S: Storage, F: WrappedFormat<S>> Qcow2<S, F> {
         requires writable { IsTrue (is_writable self.old) }
         ensures step { ImageStep S.view self.old self.new }
         ensures fails { ImageFails S.view F.backing self.old self.new result (MayFailPreparing self.new) }
-        ensures sound { 0 < length → (out : List (Option Prepared))
+        ensures sound { 0 < length → (out : Mappings)
             → ImageInvariant S.view F.backing (pending_in S.view F.backing self.old out) self.old out
             → PreparesSoundly S.view F.backing offset length overwrite self.old self.new out result }
         ensures l1_place { l1_index_of self.old.file.header.fields offset < entry_count self.old.l1_table
@@ -285,16 +285,16 @@ impl<S: Storage, F: WrappedFormat<S>> Qcow2<S, F> {
         ensures keeps_rest { KeepsRest self.old self.new }
         ensures offsets { KeepsOffsets self.old self.new }
         ensures refused { RefusesAfter self.old self.new refusal result }
-        ensures told { ((result ≡ refusal) ⊎ IsFaultOrLimit result) × ((out : List (Option Prepared))
+        ensures told { ((result ≡ refusal) ⊎ IsFaultOrLimit result) × ((out : Mappings)
             → ImageInvariant S.view F.backing (pending_in S.view F.backing self.old out) self.old out
             → (result ≡ refusal) ⊎ IsFault result) }
-        ensures emptied { IsTrue (is_writable self.old) → (out : List (Option Prepared))
+        ensures emptied { IsTrue (is_writable self.old) → (out : Mappings)
             → ImageInvariant S.view F.backing (pending_in S.view F.backing self.old out) self.old out
             → FreesRefused self.new result }
-        ensures frees { (out : List (Option Prepared))
+        ensures frees { (out : Mappings)
             → ImageInvariant S.view F.backing (pending_in S.view F.backing self.old out) self.old out
             → RefusedCall S.view F.backing self.old self.new out result }
-        ensures lasts { (out : List (Option Prepared))
+        ensures lasts { (out : Mappings)
             → ImageInvariant S.view F.backing (pending_in S.view F.backing self.old out) self.old out
             → Lasts S.view self.old self.new [] }
         ensures faults { (start : Qcow2 S F)
@@ -358,7 +358,7 @@ impl<S: Storage, F: WrappedFormat<S>> Qcow2<S, F> {
         requires writable { IsTrue (is_writable self.old) }
         ensures step { AllocatingStepWhere S.view (0 < table) self.old self.new }
         ensures fails { ImageFails S.view F.backing self.old self.new result (MayFailPreparing self.new) }
-        ensures sound { (out : List (Option Prepared))
+        ensures sound { (out : Mappings)
             → ImageInvariant S.view F.backing (pending_in S.view F.backing self.old out) self.old out
             → HoldsTable S.view F.backing self.old offset table
             → InTableSoundly S.view F.backing table offset length overwrite self.old self.new out result }
@@ -367,7 +367,7 @@ impl<S: Storage, F: WrappedFormat<S>> Qcow2<S, F> {
         ensures own { IfOk result (IsOwn self.old) }
         ensures some { IfOk result (HasBytesBehind self.new) }
         ensures pins { IfOk result (λ p. IsSome (table_of p)) }
-        ensures reaches { (out : List (Option Prepared)) (k : ℕ) → slice_get out k ≡ Some None
+        ensures reaches { (out : Mappings) (k : ℕ) → slice_get out.slots k ≡ Some None
             → ImageInvariant S.view F.backing (pending_in S.view F.backing self.old out) self.old out
             → HoldsTable S.view F.backing self.old offset table → IfOk result (Reaches S.view self.new offset length) }
     {

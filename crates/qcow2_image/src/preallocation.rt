@@ -17,7 +17,7 @@ ghost use Rattle.qcow2_alloc.specs.declared.error.ImageError.TheVariants.{Versio
 ghost use Rattle.qcow2_image.specs.declared.prepared.Prepared.{Prepared};
 ghost use Rattle.qcow2_image.specs.CallParts.{WritesData, WritesOwnData};
 ghost use Rattle.qcow2_image.specs.Image.{HasNothingToFree, is_writable, size_of};
-ghost use Rattle.qcow2_image.specs.ImageInvariant.{ImageInvariant, pending_in};
+ghost use Rattle.qcow2_image.specs.ImageInvariant.{ImageInvariant, pending_in, Mappings, set_slot};
 ghost use Rattle.qcow2_image.specs.Preallocation.{AreZeros, CommitsWhole, FillsFirst, FillsGrownOrRefuses};
 ghost use Rattle.qcow2_image.specs.Preallocation.{FillsOrRefuses, IsWholeRange, WritesZeros, most_of};
 ghost use Rattle.qcow2_image.specs.Refusals.{FreesRefused, MayFailOn, MayFailPreparing, MayFailToGrow};
@@ -121,7 +121,7 @@ impl<S: Storage, F: WrappedFormat<S>> Qcow2<S, F> {
         requires larger { old < size }
         ensures step { ImageStep S.view self.old self.new }
         ensures fails { ImageFails S.view F.backing self.old self.new result (MayFailToGrow self.new mode) }
-        ensures sound { (out : List (Option Prepared))
+        ensures sound { (out : Mappings)
             → ImageInvariant S.view F.backing (pending_in S.view F.backing self.old out) self.old out
             → FillsPart (FillsGrownOrRefuses S.view F.backing size mode self.old self.new out result)
             (HasNearEntries (rounded_up_to (cluster_size self.old.file.header.fields) size) self.old.file.header.fields
@@ -132,7 +132,7 @@ impl<S: Storage, F: WrappedFormat<S>> Qcow2<S, F> {
         ensures unfilled { mode ≡ PreallocateNone → (result ≡ Ok tt) × (self.new ≡ self.old) }
         ensures version { HasNothingToFree self.old → mode ≡ Zero → self.old.file.header.fields.version < 3
             → (result ≡ Err Version) × (self.new ≡ self.old) }
-        ensures freed { (out : List (Option Prepared))
+        ensures freed { (out : Mappings)
             → ImageInvariant S.view F.backing (pending_in S.view F.backing self.old out) self.old out
             → IfErr result (FreesRefused self.new) }
     {
@@ -149,7 +149,7 @@ impl<S: Storage, F: WrappedFormat<S>> Qcow2<S, F> {
         requires larger { old < size }
         ensures step { ImageStep S.view self.old self.new }
         ensures fails { ImageFails S.view F.backing self.old self.new result (MayFailToGrow self.new mode) }
-        ensures sound { (out : List (Option Prepared))
+        ensures sound { (out : Mappings)
             → ImageInvariant S.view F.backing (pending_in S.view F.backing self.old out) self.old out
             → FillsPart (FillsGrownOrRefuses S.view F.backing size mode self.old self.new out result)
             (HasNearEntries (rounded_up_to (cluster_size self.old.file.header.fields) size) self.old.file.header.fields
@@ -179,7 +179,7 @@ impl<S: Storage, F: WrappedFormat<S>> Qcow2<S, F> {
         requires zeros { WritesZeros (2 ^ 21) writes.now }
         ensures step { ImageStep S.view self.old self.new }
         ensures fails { ImageFails S.view F.backing self.old self.new result (MayFailPreparing self.new) }
-        ensures sound { (out : List (Option Prepared))
+        ensures sound { (out : Mappings)
             → ImageInvariant S.view F.backing (pending_in S.view F.backing self.old out) self.old out → old ≤ size
             → FillsPart (FillsOrRefuses S.view F.backing
             (rounded_up_to (cluster_size self.old.file.header.fields) size) old
@@ -206,7 +206,7 @@ impl<S: Storage, F: WrappedFormat<S>> Qcow2<S, F> {
         requires zeros { WritesZeros (2 ^ 21) writes.now }
         ensures step { ImageStep S.view self.old self.new }
         ensures fails { ImageFails S.view F.backing self.old self.new result (MayFailPreparing self.new) }
-        ensures sound { (out : List (Option Prepared))
+        ensures sound { (out : Mappings)
             → ImageInvariant S.view F.backing (pending_in S.view F.backing self.old out) self.old out → old ≤ size
             → FillsPart (FillsOrRefuses S.view F.backing
             (rounded_up_to (cluster_size self.old.file.header.fields) size) old
@@ -229,7 +229,7 @@ impl<S: Storage, F: WrappedFormat<S>> Qcow2<S, F> {
         requires writable { IsTrue (is_writable self.old) }
         ensures step { ImageStep S.view self.old self.new }
         ensures fails { ImageFails S.view F.backing self.old self.new result (MayFailToGrow self.new Zero) }
-        ensures sound { (out : List (Option Prepared))
+        ensures sound { (out : Mappings)
             → ImageInvariant S.view F.backing (pending_in S.view F.backing self.old out) self.old out → old ≤ size
             → FillsPart (FillsOrRefuses S.view F.backing
             (rounded_up_to (cluster_size self.old.file.header.fields) old) old
@@ -261,7 +261,7 @@ impl<S: Storage, F: WrappedFormat<S>> Qcow2<S, F> {
         requires writable { IsTrue (is_writable self.old) }
         ensures step { ImageStep S.view self.old self.new }
         ensures fails { ImageFails S.view F.backing self.old self.new result (MayFailPreparing self.new) }
-        ensures sound { (out : List (Option Prepared))
+        ensures sound { (out : Mappings)
             → ImageInvariant S.view F.backing (pending_in S.view F.backing self.old out) self.old out → old ≤ from
             → from ≤ end → IsWholeRange self.old.file.header.fields from end → 3 ≤ self.old.file.header.fields.version
             → FillsPart (FillsOrRefuses S.view F.backing from old end self.old self.new out result)
@@ -280,7 +280,7 @@ impl<S: Storage, F: WrappedFormat<S>> Qcow2<S, F> {
         requires writable { IsTrue (is_writable self.old) }
         ensures step { ImageStep S.view self.old self.new }
         ensures fails { ImageFails S.view F.backing self.old self.new result (MayFailPreparing self.new) }
-        ensures sound { (out : List (Option Prepared))
+        ensures sound { (out : Mappings)
             → ImageInvariant S.view F.backing (pending_in S.view F.backing self.old out) self.old out → from ≤ to
             → IsWholeRange self.old.file.header.fields from to → 3 ≤ self.old.file.header.fields.version
             → FillsPart (FillsOrRefuses S.view F.backing 0 from to self.old self.new out result)
@@ -300,7 +300,7 @@ impl<S: Storage, F: WrappedFormat<S>> Qcow2<S, F> {
         requires writable { IsTrue (is_writable self.old) }
         ensures step { ImageStep S.view self.old self.new }
         ensures fails { ImageFails S.view F.backing self.old self.new result (MayFailPreparing self.new) }
-        ensures sound { (out : List (Option Prepared))
+        ensures sound { (out : Mappings)
             → ImageInvariant S.view F.backing (pending_in S.view F.backing self.old out) self.old out → from ≤ to
             → IsWholeRange self.old.file.header.fields from to → 3 ≤ self.old.file.header.fields.version
             → FillsPart (FillsFirst S.view F.backing 0 from to self.old self.new out result)
@@ -308,7 +308,7 @@ impl<S: Storage, F: WrappedFormat<S>> Qcow2<S, F> {
             → IfErr result (MayFailAllocating (HasPinnedMapping out) (HasPinnedMapping out) ⊥ ⊥)) }
         ensures emptied { HasNothingToFree self.old → OnOk result (HasNothingToFree self.new) }
         ensures next { IfOk result (λ next. (from ≤ next) × (from < to → from < next) × (next ≤ max from to)) }
-        ensures whole { (out : List (Option Prepared))
+        ensures whole { (out : Mappings)
             → ImageInvariant S.view F.backing (pending_in S.view F.backing self.old out) self.old out
             → IsWholeRange self.old.file.header.fields from to
             → IfOk result (λ next. next % cluster_size self.old.file.header.fields ≡ 0) }
@@ -328,7 +328,7 @@ impl<S: Storage, F: WrappedFormat<S>> Qcow2<S, F> {
         requires zeros { WritesZeros (2 ^ 21) writes.now }
         ensures step { ImageStep S.view self.old self.new }
         ensures fails { ImageFails S.view F.backing self.old self.new result (MayFailPreparing self.new) }
-        ensures sound { (out : List (Option Prepared))
+        ensures sound { (out : Mappings)
             → ImageInvariant S.view F.backing (pending_in S.view F.backing self.old out) self.old out → from ≤ to
             → to % cluster_size self.old.file.header.fields ≡ 0
             → FillsPart (FillsOrRefuses S.view F.backing to from to self.old self.new out result)
@@ -351,7 +351,7 @@ impl<S: Storage, F: WrappedFormat<S>> Qcow2<S, F> {
         requires some { from < to }
         ensures step { ImageStep S.view self.old self.new }
         ensures fails { ImageFails S.view F.backing self.old self.new result (MayFailPreparing self.new) }
-        ensures sound { (out : List (Option Prepared))
+        ensures sound { (out : Mappings)
             → ImageInvariant S.view F.backing (pending_in S.view F.backing self.old out) self.old out
             → FillsPart (to % cluster_size self.old.file.header.fields ≡ 0
             → FillsFirst S.view F.backing to from to self.old self.new out result)
@@ -416,9 +416,9 @@ impl<S: Storage, F: WrappedFormat<S>> Qcow2<S, F> {
         ensures step { ImageStep S.view self.old self.new }
         ensures header { self.new.file.header ≡ self.old.file.header }
         ensures table { self.new.l1_table ≡ self.old.l1_table }
-        ensures commits { (out : List (Option Prepared)) (k : ℕ) → slice_get out k ≡ Some (Some prepared)
+        ensures commits { (out : Mappings) (k : ℕ) → slice_get out.slots k ≡ Some (Some prepared)
             → ImageInvariant S.view F.backing (pending_in S.view F.backing self.old out) self.old out
-            → CommitsWhole S.view F.backing self.old self.new out k prepared (slice_set out k None) }
+            → CommitsWhole S.view F.backing self.old self.new out k prepared (set_slot out k None) }
         ensures faults { SameFaults S.view F.backing self.old self.new }
     {
         if prepared.table.is_none() {

@@ -12,7 +12,7 @@ ghost use Rattle.qcow2_image.specs.Refusals.{MayFailOn};
 ghost use Rattle.qcow2_image.specs.declared.prepared.Prepared.{Prepared};
 ghost use Rattle.qcow2_image.specs.declared.image.Qcow2.{Qcow2};
 ghost use Rattle.qcow2_image.specs.CallParts.{IsReadied};
-ghost use Rattle.qcow2_image.specs.ImageInvariant.{pending_in, ImageInvariant};
+ghost use Rattle.qcow2_image.specs.ImageInvariant.{pending_in, ImageInvariant, Mappings};
 ghost use Rattle.qcow2_image.specs.InternalSteps.{ListGrows};
 ghost use Rattle.qcow2_image.specs.Ranges.{FindsBehind, GoesNext, GoesOn, HasRoomForRange, IsLongerMapping};
 ghost use Rattle.qcow2_image.specs.Ranges.{IsNext, EndsWithCluster, MayGoOn};
@@ -52,7 +52,7 @@ impl<S: Storage, F: WrappedFormat<S>> Qcow2<S, F> {
         requires room { HasRoomForRange self.old.file.header.fields length prepared.old }
         ensures step { AllocatingStep S.view self.old self.new }
         ensures fails { ImageFails S.view F.backing self.old self.new result (MayFailOn self.new) }
-        ensures sound { (start : Qcow2 S F) (out : List (Option Prepared)) (k : ℕ) → slice_get out k ≡ Some None
+        ensures sound { (start : Qcow2 S F) (out : Mappings) (k : ℕ) → slice_get out.slots k ≡ Some None
             → prepared.old.table ≡ Some table
             → IsReadied S.view F.backing start self.old out k prepared.old.guest length overwrite prepared.old
             → RestSoundly S.view F.backing start length overwrite prepared.old prepared.new self.old self.new out
@@ -81,7 +81,7 @@ impl<S: Storage, F: WrappedFormat<S>> Qcow2<S, F> {
         requires room { vec_len prepared.old.clusters < vec_capacity prepared.old.clusters }
         ensures step { AllocatingStep S.view self.old self.new }
         ensures fails { ImageFails S.view F.backing self.old self.new result (MayFailOn self.new) }
-        ensures sound { (out : List (Option Prepared)) (k : ℕ) → slice_get out k ≡ Some (Some prepared.old)
+        ensures sound { (out : Mappings) (k : ℕ) → slice_get out.slots k ≡ Some (Some prepared.old)
             → MayGoOn self.old.file.header.fields length table prepared.old
             → ImageInvariant S.view F.backing (pending_in S.view F.backing self.old out) self.old out
             → BehindSoundly S.view F.backing prepared.old length overwrite self.old self.new out result
@@ -111,7 +111,7 @@ impl<S: Storage, F: WrappedFormat<S>> Qcow2<S, F> {
         requires writable { IsTrue (is_writable self.old) }
         ensures step { AllocatingStep S.view self.old self.new }
         ensures fails { ImageFails S.view F.backing self.old self.new result (MayFailOn self.new) }
-        ensures sound { (out : List (Option Prepared)) (k : ℕ) → slice_get out k ≡ Some (Some prepared.now)
+        ensures sound { (out : Mappings) (k : ℕ) → slice_get out.slots k ≡ Some (Some prepared.now)
             → MayGoOn self.old.file.header.fields length table prepared.now
             → ImageInvariant S.view F.backing (pending_in S.view F.backing self.old out) self.old out
             → BehindSoundly S.view F.backing prepared.now length overwrite self.old self.new out result

@@ -22,7 +22,7 @@ ghost use Rattle.qcow2_image.specs.declared.prepared.Prepared.{Prepared};
 ghost use Rattle.qcow2_image.specs.Growing.{LastsCall};
 ghost use Rattle.qcow2_image.specs.Image.{HasNothingToFree, IsSameImage, has_noted_change, is_failed, is_writable};
 ghost use Rattle.qcow2_image.specs.Image.{size_of, with_marks};
-ghost use Rattle.qcow2_image.specs.ImageInvariant.{ImageInvariant, abstract_of, pending_in};
+ghost use Rattle.qcow2_image.specs.ImageInvariant.{ImageInvariant, abstract_of, pending_in, Mappings};
 ghost use Rattle.qcow2_image.specs.Refusals.{MarksFailed, MayFailOn, MayFailToGrow};
 ghost use Rattle.qcow2_image.specs.Refusals.{MarksRefused, MayFailOn};
 ghost use Rattle.qcow2_image.specs.Resizing.{GrowsTo, MayFailShrinking, IsResized, Shrinks, WritesSize};
@@ -64,7 +64,7 @@ impl<S: Storage, F: WrappedFormat<S>> Qcow2<S, F> {
         ensures image { size < size_of self.old
             → IsResized (size_after result (size_of self.old) size) self.old self.new }
         ensures sees { Shrinks S.view F.backing self.old self.new size result }
-        ensures sound { (out : List (Option Prepared)) → (abstract_of S.view F.backing self.old out).is_sound
+        ensures sound { (out : Mappings) → (abstract_of S.view F.backing self.old out).is_sound
             → ShrinksSoundly S.view F.backing size self.old self.new out result }
     {
         self.check_resize()?;
@@ -96,7 +96,7 @@ impl<S: Storage, F: WrappedFormat<S>> Qcow2<S, F> {
         ensures cause { IfErr result IsFault }
         ensures image { IsResized (size_after result (size_of self.old) size) self.old self.new }
         ensures sees { Shrinks S.view F.backing self.old self.new size result }
-        ensures sound { refuses_to_resize self.old ≡ None → (out : List (Option Prepared))
+        ensures sound { refuses_to_resize self.old ≡ None → (out : Mappings)
             → (abstract_of S.view F.backing self.old out).is_sound → (HasPinnedMapping out → ⊥)
             → ShrinksSoundly S.view F.backing size self.old self.new out result }
     {
@@ -119,7 +119,7 @@ impl<S: Storage, F: WrappedFormat<S>> Qcow2<S, F> {
         requires usable { is_failed self.old ≡ false }
         requires smaller { size < size_of self.old }
         ensures step { TailStep S.view F.backing result.1 self.old self.new }
-        ensures sound { (out : List (Option Prepared))
+        ensures sound { (out : Mappings)
             → ImageInvariant S.view F.backing (pending_in S.view F.backing self.old out) self.old out
             → DiscardsSoundly S.view F.backing size result.0 result.1 self.old self.new out }
     {
@@ -158,7 +158,7 @@ impl<S: Storage, F: WrappedFormat<S>> Qcow2<S, F> {
         requires usable { is_failed self.old ≡ false }
         requires smaller { size < size_of self.old }
         ensures step { TailStep S.view F.backing result.1 self.old self.new }
-        ensures sound { (out : List (Option Prepared))
+        ensures sound { (out : Mappings)
             → ImageInvariant S.view F.backing (pending_in S.view F.backing self.old out) self.old out
             → DiscardsSoundly S.view F.backing size result.0 result.1 self.old self.new out }
     {
@@ -186,7 +186,7 @@ impl<S: Storage, F: WrappedFormat<S>> Qcow2<S, F> {
         requires inside { at < size_of self.old }
         ensures step { TurnStep S.view F.backing self.old self.new result }
         ensures sound { DiscardsStep S.view F.backing at self.old self.new result }
-        ensures emptied { IsTrue (is_writable self.old) → (out : List (Option Prepared))
+        ensures emptied { IsTrue (is_writable self.old) → (out : Mappings)
             → ImageInvariant S.view F.backing (pending_in S.view F.backing self.old out) self.old out
             → IfErr result (λ e. IsFault e ⊎ HasNothingToFree self.new) }
     {
@@ -239,7 +239,7 @@ impl<S: Storage, F: WrappedFormat<S>> Qcow2<S, F> {
         ensures image { size_of self.old < size
             → IsResized (size_after result (size_of self.old) size) self.old self.new }
         ensures sees { GrowsTo S.view F.backing self.old self.new size mode result }
-        ensures sound { (out : List (Option Prepared)) → (abstract_of S.view F.backing self.old out).is_sound
+        ensures sound { (out : Mappings) → (abstract_of S.view F.backing self.old out).is_sound
             → GrowsOrRefuses S.view F.backing mode size self.old self.new out result }
     {
         self.check_resize()?;
@@ -271,7 +271,7 @@ impl<S: Storage, F: WrappedFormat<S>> Qcow2<S, F> {
         requires larger { size_of self.old < size }
         ensures step { MarkedStep S.view F.backing self.old self.new result }
         ensures cause { IfErr result (MayFailToGrow self.new mode) }
-        ensures sound { (out : List (Option Prepared)) → (abstract_of S.view F.backing self.old out).is_sound
+        ensures sound { (out : Mappings) → (abstract_of S.view F.backing self.old out).is_sound
             → GrowsSoundly S.view F.backing mode size self.old self.new out result }
         ensures image { IsResized (size_after result (size_of self.old) size) self.old self.new }
         ensures sees { GrowsTo S.view F.backing self.old self.new size mode result }
@@ -395,10 +395,10 @@ impl<S: Storage, F: WrappedFormat<S>> Qcow2<S, F> {
         ensures time { (view_in S.view self.old.file).is_honest
             → EachMomentSince (view_in S.view self.old.file) (view_in S.view self.new.file)
             (IsLeftBy (view_in S.view self.new.file)) }
-        ensures writes { (out : List (Option Prepared))
+        ensures writes { (out : Mappings)
             → ImageInvariant S.view F.backing (pending_in S.view F.backing self.old out) self.old out
             → WritesSize S.view F.backing self.old self.new out size result }
-        ensures lasts { (p : Pending) (out : List (Option Prepared)) → ImageInvariant S.view F.backing p self.old out
+        ensures lasts { (p : Pending) (out : Mappings) → ImageInvariant S.view F.backing p self.old out
             → LastsCall S.view (size ∷ []) self.old self.new result }
         ensures notes { KeepsFileNotes S.view self.old.file self.new.file }
         ensures header_cluster { PreservesHeaderCluster S.view self.old self.new }

@@ -8,7 +8,7 @@ ghost use Rattle.qcow2_alloc.specs.declared.error.ImageError.TheVariants.{Failed
 ghost use Rattle.qcow2_laws.specs.CrashInvariant.{Pending};
 ghost use Rattle.qcow2_image.specs.Calls.{AnswersCall};
 ghost use Rattle.qcow2_image.specs.Image.{is_failed, storage_of_image};
-ghost use Rattle.qcow2_image.specs.ImageInvariant.{ImageInvariant};
+ghost use Rattle.qcow2_image.specs.ImageInvariant.{ImageInvariant, Mappings};
 ghost use Rattle.qcow2_image.specs.Storages.{PassesOn, storages_of};
 ghost use Rattle.qcow2_image.specs.InternalSteps.{InternalStep};
 ghost use Rattle.qcow2_image.specs.Unwritten.{ContentsStayThroughout};
@@ -46,7 +46,7 @@ impl<S: Storage, F: WrappedFormat<S>> Qcow2<S, F> {
         ensures fails { ImageFails S.view F.backing self.old self.new result IsFault }
         ensures silent { (view_in S.view self.old.file).is_honest
             → ContentsStayThroughout (view_in S.view self.old.file) (view_in S.view self.new.file) }
-        ensures keeps { (p : Pending) (out : List (Option Prepared)) → ImageInvariant S.view F.backing p self.old out
+        ensures keeps { (p : Pending) (out : Mappings) → ImageInvariant S.view F.backing p self.old out
             → InternalStep S.view F.backing p p self.old self.new out }
         ensures passes { OnOk result (PassesOn S.passes SyncCall self.old self.new) }
     {
@@ -59,7 +59,7 @@ impl<S: Storage, F: WrappedFormat<S>> Qcow2<S, F> {
         ensures fails { ImageFails S.view F.backing self.old self.new result IsFault }
         ensures silent { (view_in S.view self.old.file).is_honest
             → ContentsStayThroughout (view_in S.view self.old.file) (view_in S.view self.new.file) }
-        ensures keeps { (p : Pending) (out : List (Option Prepared)) → ImageInvariant S.view F.backing p self.old out
+        ensures keeps { (p : Pending) (out : Mappings) → ImageInvariant S.view F.backing p self.old out
             → InternalStep S.view F.backing p p self.old self.new out }
         ensures passes { OnOk result
             (S.passes SyncCall (storage_of_image self.old) (storage_of_image self.new) (Ok tt)) }

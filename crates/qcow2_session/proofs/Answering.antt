@@ -1,6 +1,6 @@
 -- Which replies a command may get: a failed image refuses before everything else, and what is done lies within the size.
 use Rattle.std.proofs.Common.{◌≡◌, ◌+◌, ◌≤◌, ◌<◌, inl, inr, ℕ, Bool, true, IsTrue, ap, ◌∙◌, subst, arith, List, length, Option, Some, None, Result, Ok, Err}
-use Rattle.qcow2_session.proofs.Common.{IfSome, option_or, cases_lt, cases_Bool, cond-true, cond-false, common_steps, BackingView, StorageView, ImageError, AbstractImage, another, read, write, get_mapping, prepare, done, bytes_are, prepared_is, refused, write_refused, IsAnswer, Qcow2, Prepared, CommitRefused, Kept, Spent, refusal_of, is_failed, lacks_data_file, is_writable, size_of, HasNothingToFree, abstract_of, to_free, of_tables, of_data, refuse_if, passes, unusable, refuses_to_read, refuses_to_prepare, refuses_mapping, disk_size, sound_is_usable}
+use Rattle.qcow2_session.proofs.Common.{IfSome, option_or, cases_lt, cases_Bool, cond-true, cond-false, common_steps, BackingView, StorageView, ImageError, AbstractImage, another, read, write, get_mapping, prepare, done, bytes_are, prepared_is, refused, write_refused, IsAnswer, Qcow2, Prepared, CommitRefused, Kept, Spent, refusal_of, is_failed, lacks_data_file, is_writable, size_of, HasNothingToFree, abstract_of, to_free, of_tables, of_data, refuse_if, passes, unusable, refuses_to_read, refuses_to_prepare, refuses_mapping, disk_size, sound_is_usable, Mappings}
 use Rattle.qcow2_alloc.specs.declared.error.ImageError.TheVariants as I
 
 -- ---- a failed image
@@ -65,7 +65,7 @@ read_within P never None size offset n early some = elim (cases_lt size (offset 
 
 -- ---- commands
 
-module _ {S F : Type 0} (view : S → StorageView) (backing : F → BackingView) (image : Qcow2 S F) (out : List (Option Prepared)) where
+module _ {S F : Type 0} (view : S → StorageView) (backing : F → BackingView) (image : Qcow2 S F) (out : Mappings) where
   pub reads_answer : (P : ImageError → Type 0) → ((e : ImageError) → P e → ⊥) → (offset n : ℕ) (bytes : List ℕ) → IfSome (refuses_to_read image offset n) P
       → {w : AbstractImage} → IsAnswer (abstract_of view backing image out) w (read offset n) (bytes_are bytes)
   reads_answer P never offset n bytes early = record {

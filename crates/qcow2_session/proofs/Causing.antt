@@ -3,7 +3,7 @@ use Rattle.qcow2_alloc.specs.declared.error.ImageError.TheVariants as I
 use Rattle.qcow2_session.specs.declared.session.Command.TheVariants as C
 use Rattle.qcow2_session.specs.declared.session.Reply.TheVariants as R
 use Rattle.std.proofs.Common.{◌≡◌, ◌⊎◌, ◌+◌, ◌<◌, ◌≤◌, ◌&&◌, ◌==◌, inl, inr, ℕ, Bool, true, false, not, IsTrue, List, Option, Some, None, Bor, refl, sym, ap, ◌∙◌, subst, arith, IfErr, Result, Ok, Err, is_some}
-use Rattle.qcow2_session.proofs.Common.{Global, Vec, nat_lt, IfSome, IfOk, IsSome, MatchOption, slice_get, option_or, cases_lt, eq-eqb, lt-ltb, ltb-true, common_steps, BackingView, StorageView, Clearing, known_in, ImageError, IsUnderMapping, from_in, refuses_clearing, to_in, lacks_data_file, is_failed, number_of, abstract_of, MayFailAlone, MayFailReadingRange, MayFailAllocating, Qcow2, Mapping, CommitRefused, Kept, Prepared, IsHandedBackBy, MayFailToRead, MayFailPreparing, passes, refuse_if, refuses_mapping, refuses_to_read, unusable, HasNothingToDo, MayFailOnSound, MayFailReadingFrom, RefusalJustified, IsUntouchedUnder, MayFailWith, ReportsMisuse, first_cause, ClearingMayFail, CommandMayFailAllocating, reply_of_clearing, refusal_in, IsOfReading, Command, Reply, and_parts}
+use Rattle.qcow2_session.proofs.Common.{Global, Vec, nat_lt, IfSome, IfOk, IsSome, MatchOption, slice_get, option_or, cases_lt, eq-eqb, lt-ltb, ltb-true, common_steps, BackingView, StorageView, Clearing, known_in, ImageError, IsUnderMapping, from_in, refuses_clearing, to_in, lacks_data_file, is_failed, number_of, abstract_of, MayFailAlone, MayFailReadingRange, MayFailAllocating, Qcow2, Mapping, CommitRefused, Kept, Prepared, IsHandedBackBy, MayFailToRead, MayFailPreparing, passes, refuse_if, refuses_mapping, refuses_to_read, unusable, HasNothingToDo, MayFailOnSound, MayFailReadingFrom, RefusalJustified, IsUntouchedUnder, MayFailWith, ReportsMisuse, first_cause, ClearingMayFail, CommandMayFailAllocating, reply_of_clearing, refusal_in, IsOfReading, Command, Reply, and_parts, Mappings}
 use Rattle.qcow2_alloc.proofs.CachedEntries.Lists.{option_or-none}
 
 -- ---- what was refused at once
@@ -42,9 +42,9 @@ mapping_reading A X image e early late = by (is_failed image) (lacks_data_file i
 
 -- ---- what a reply is made of
 
-module _ {S F : Type 0} (view : S → StorageView) (backing : F → BackingView) (old new : Qcow2 S F) (before : List (Option Prepared)) {found : ℕ → Option Mapping} (command : Command) where
+module _ {S F : Type 0} (view : S → StorageView) (backing : F → BackingView) (old new : Qcow2 S F) (before : Mappings) {found : ℕ → Option Mapping} (command : Command) where
   -- nothing was called
-  pub is_misused : ReportsMisuse before found command R.Misuse → new ≡ old → MayFailOnSound view backing old new before found command R.Misuse → RefusalJustified view backing old new before found command R.Misuse
+  pub is_misused : ReportsMisuse before.slots found command R.Misuse → new ≡ old → MayFailOnSound view backing old new before found command R.Misuse → RefusalJustified view backing old new before found command R.Misuse
   is_misused misuse same respects = record {
     misuse = misuse;
     still = λ _. same;
@@ -56,32 +56,32 @@ module _ {S F : Type 0} (view : S → StorageView) (backing : F → BackingView)
   }
 
   -- it was answered, so nothing refused it at once
-  pub is_done : (reply : Reply) → (reply ≡ R.Misuse → ⊥) → ReportsMisuse before found command reply → refusal_in reply ≡ None → IfSome (first_cause old command) (λ e. ⊥)
+  pub is_done : (reply : Reply) → (reply ≡ R.Misuse → ⊥) → ReportsMisuse before.slots found command reply → refusal_in reply ≡ None → IfSome (first_cause old command) (λ e. ⊥)
       → (first_cause old command ≡ None → (abstract_of view backing old before).is_sound → MayFailOnSound view backing old new before found command reply) → RefusalJustified view backing old new before found command reply
   is_done reply never misuse done early respects = record {
     misuse = misuse;
     still = λ is. absurd (never is);
     early = if_some_to (first_cause old command) (λ e no. absurd no) early;
-    late = λ _. subst (λ o. IfSome o (MayFailWith old new before found command)) (sym done) tt;
+    late = λ _. subst (λ o. IfSome o (MayFailWith old new before.slots found command)) (sym done) tt;
     may_fail = λ _ _. subst (λ o. IfSome o (CommandMayFailAllocating view old new before command)) (sym done) tt;
     idle = λ _ _. done;
     respects = respects;
   }
 
-  pub is_answered : {A : Type 0} (Same : Type 0) (a : A) (reply : Reply) → (reply ≡ R.Misuse → ⊥) → ReportsMisuse before found command reply → refusal_in reply ≡ None → IfSome (first_cause old command) (λ e. (◌≡◌ {A = Result A ImageError} (Ok a) (Err e)) × Same)
+  pub is_answered : {A : Type 0} (Same : Type 0) (a : A) (reply : Reply) → (reply ≡ R.Misuse → ⊥) → ReportsMisuse before.slots found command reply → refusal_in reply ≡ None → IfSome (first_cause old command) (λ e. (◌≡◌ {A = Result A ImageError} (Ok a) (Err e)) × Same)
       → (first_cause old command ≡ None → (abstract_of view backing old before).is_sound → MayFailOnSound view backing old new before found command reply) → RefusalJustified view backing old new before found command reply
   is_answered Same a reply never misuse done early respects = is_done reply never misuse done (if_some_to (first_cause old command) (λ e no. let is = no.0 in cc) early) respects
 
   -- it was refused
-  pub is_refused : (e : ImageError) (reply : Reply) → (reply ≡ R.Misuse → ⊥) → ReportsMisuse before found command reply → refusal_in reply ≡ Some e → IfSome (first_cause old command) (λ x. (e ≡ x) × (new ≡ old))
-      → (first_cause old command ≡ None → MayFailWith old new before found command e) → (first_cause old command ≡ None → (abstract_of view backing old before).is_sound → CommandMayFailAllocating view old new before command e)
+  pub is_refused : (e : ImageError) (reply : Reply) → (reply ≡ R.Misuse → ⊥) → ReportsMisuse before.slots found command reply → refusal_in reply ≡ Some e → IfSome (first_cause old command) (λ x. (e ≡ x) × (new ≡ old))
+      → (first_cause old command ≡ None → MayFailWith old new before.slots found command e) → (first_cause old command ≡ None → (abstract_of view backing old before).is_sound → CommandMayFailAllocating view old new before command e)
       → (first_cause old command ≡ None → HasNothingToDo view backing old new before command → ⊥)
       → (first_cause old command ≡ None → (abstract_of view backing old before).is_sound → MayFailOnSound view backing old new before found command reply) → RefusalJustified view backing old new before found command reply
   is_refused e reply never misuse is early late may_fail idle respects = record {
     misuse = misuse;
     still = λ is. absurd (never is);
     early = if_some_to (first_cause old command) (λ x h. (inl (is ∙ ap Some h.0), h.1)) early;
-    late = λ none. subst (λ o. IfSome o (MayFailWith old new before found command)) (sym is) (late none);
+    late = λ none. subst (λ o. IfSome o (MayFailWith old new before.slots found command)) (sym is) (late none);
     may_fail = λ none sound. subst (λ o. IfSome o (CommandMayFailAllocating view old new before command)) (sym is) (may_fail none sound);
     idle = λ none nothing. absurd (idle none nothing);
     respects = respects;
@@ -114,12 +114,12 @@ far_taking e (inl alone) is = far_alone e alone is
 far_taking e (inr (inl used)) is = absurd (let why = used.0 in cc)
 far_taking e (inr (inr kept)) is = absurd (let why = kept.0 in cc)
 
-module _ {S F : Type 0} (view : S → StorageView) (backing : F → BackingView) (old new : Qcow2 S F) (before : List (Option Prepared)) {found : ℕ → Option Mapping} where
+module _ {S F : Type 0} (view : S → StorageView) (backing : F → BackingView) (old new : Qcow2 S F) (before : Mappings) {found : ℕ → Option Mapping} where
   pub read_answered : (Same : Type 0) (offset n : ℕ) (bytes : Vec ℕ Global) → IfSome (refuses_to_read old offset n) (λ x. (◌≡◌ {A = Result (Vec ℕ Global) ImageError} (Ok bytes) (Err x)) × Same) → RefusalJustified view backing old new before found (C.Read offset n) (R.Bytes bytes)
   read_answered Same offset n bytes early = is_answered view backing old new before (C.Read offset n) Same bytes (R.Bytes bytes) (λ is. absurd cc) (λ is. absurd cc, λ is. absurd is) refl early (λ _ _. tt)
 
   pub read_refused : (offset n : ℕ) (e : ImageError) → IfSome (refuses_to_read old offset n) (λ x. (◌≡◌ {A = Result (Vec ℕ Global) ImageError} (Err e) (Err x)) × (new ≡ old)) → (refuses_to_read old offset n ≡ None → MayFailReadingFrom new offset (offset + n) e × (0 < n))
-      → (refuses_to_read old offset n ≡ None → (out : List (Option Prepared)) → (abstract_of view backing old out).is_sound → MayFailReadingRange out offset (offset + n) old.file.header.fields (known_in view old.file) e)
+      → (refuses_to_read old offset n ≡ None → (out : Mappings) → (abstract_of view backing old out).is_sound → MayFailReadingRange out offset (offset + n) old.file.header.fields (known_in view old.file) e)
       → RefusalJustified view backing old new before found (C.Read offset n) (R.Refused e)
   read_refused offset n e early late may_fail =
       is_refused view backing old new before (C.Read offset n) e (R.Refused e) (λ is. absurd cc) (λ is. absurd cc, λ is. absurd is) refl (begun_with (Vec ℕ Global) (new ≡ old) e (refuses_to_read old offset n) early)
@@ -218,10 +218,10 @@ grow_meets e old size takes none larger (inr mode) = absurd (elim (cases_lt old 
 
 -- ---- clearing a range
 
-module _ {S F : Type 0} (view : S → StorageView) (backing : F → BackingView) (old new : Qcow2 S F) (before : List (Option Prepared)) {found : ℕ → Option Mapping} (offset n : ℕ) (how : Clearing) (command : Command)
+module _ {S F : Type 0} (view : S → StorageView) (backing : F → BackingView) (old new : Qcow2 S F) (before : Mappings) {found : ℕ → Option Mapping} (offset n : ℕ) (how : Clearing) (command : Command)
     (cause : first_cause old command ≡ refuses_clearing old offset n how) (nothing : HasNothingToDo view backing old new before command → to_in old offset n ≤ from_in old offset n)
-    (may : (e : ImageError) → MayFailPreparing new e → MayFailWith old new before found command e) (taking : (e : ImageError) → ClearingMayFail view old new before offset n e → CommandMayFailAllocating view old new before command e) (heed : (reply : Reply) → IsUntouchedUnder view backing old new before offset n reply → MayFailOnSound view backing old new before found command reply)
-    (misuse : (reply : Reply) → (reply ≡ R.Misuse → ⊥) → ReportsMisuse before found command reply) where
+    (may : (e : ImageError) → MayFailPreparing new e → MayFailWith old new before.slots found command e) (taking : (e : ImageError) → ClearingMayFail view old new before offset n e → CommandMayFailAllocating view old new before command e) (heed : (reply : Reply) → IsUntouchedUnder view backing old new before offset n reply → MayFailOnSound view backing old new before found command reply)
+    (misuse : (reply : Reply) → (reply ≡ R.Misuse → ⊥) → ReportsMisuse before.slots found command reply) where
   clears_as : (r : Result (ℕ × ℕ) ImageError) → IfSome (refuses_clearing old offset n how) (λ e. (r ≡ Err e) × (new ≡ old)) → (refuses_clearing old offset n how ≡ None → IfErr r (MayFailPreparing new)) → (refuses_clearing old offset n how ≡ None → (abstract_of view backing old before).is_sound → IfErr r (ClearingMayFail view old new before offset n))
       → (refuses_clearing old offset n how ≡ None → to_in old offset n ≤ from_in old offset n → (r ≡ Ok (from_in old offset n, 0)) × (new ≡ old))
       → (refuses_clearing old offset n how ≡ None → from_in old offset n < to_in old offset n → (abstract_of view backing old before).is_sound → IfErr r (λ e. e ≡ I.TablePrepared → IsUnderMapping old.file.header.fields (from_in old offset n) before) × IfOk r (λ range. ¬ IsUnderMapping old.file.header.fields (from_in old offset n) before))

@@ -1,6 +1,6 @@
 -- A part of a write: prepared, put and committed. If one of these is refused, the mapping is released.
 use Rattle.std.proofs.Common.{◌≡◌, ◌⊎◌, ◌+◌, ◌-◌, ◌%◌, ◌<◌, ◌≤◌, ◌∷◌, ⊎_elim, inl, inr, ℕ, suc, eqb, min, List, [], take, length, true, false, Option, Some, None, refl, sym, ap, ◌∙◌, subst, arith}
-use Rattle.qcow2_session.proofs.Common.{cond-true, cond-false, cases_Bool, ne_eqb, common_steps, fun_ext, byte_at, laid_over, is_within, rounded_down, Value, known_byte, Disk, with_bytes, GivenBytes, IsGiven, PreparedMapping, IsPrepared, put_disk, put_mapping, committed, given_of, given_by_put, given_by_commit, Setting, Abstraction, HasFreePlaces, Guest, abstract_image, guest_of, Refusal, memory, storage, not_compressed, another, IsRefusalByFault, AnsweredEffect, RefusedEffect, IsSame, MayWrite, WritesSome, with_disk, with_slot, shown_is, touches_part}
+use Rattle.qcow2_session.proofs.Common.{cond-true, cond-false, cases_Bool, ne_eqb, common_steps, fun_ext, byte_at, laid_over, is_within, rounded_down, Value, known_byte, Disk, with_bytes, GivenBytes, IsGiven, PreparedMapping, IsPrepared, put_disk, put_mapping, committed, given_of, given_by_put, given_by_commit, Setting, Abstraction, HasFreePlaces, Guest, abstract_image, guest_of, Refusal, memory, storage, not_compressed, another, IsRefusalByFault, AnsweredEffect, RefusedEffect, IsSame, MayWrite, WritesSome, with_disk, with_slot, shown_is, touches_part, in_image}
 use Rattle.qcow2_disk.proofs.ForUsers.{put_given}
 use Rattle.qcow2_disk.proofs.Within.{within_is}
 use Rattle.qcow2_session.proofs.Bytes.{byte_in, laid_in, laid_out, no_bytes, same_values, part_within}
@@ -117,7 +117,7 @@ shift g = record { disk = g.disk; slots = λ k. g.slots (suc k) }
 shift_slot : (g : Guest) (m : Option PreparedMapping) → shift (with_slot g 0 m) ≡ shift g
 shift_slot g m = ap (λ (f : ℕ → Option PreparedMapping). record g { slots = f }) (fun_ext (λ k. cond-false (eqb (suc k) 0) m (g.slots (suc k)) (ne_eqb (suc k) 0 (λ e. absurd (omega arith)))))
 
-module _ {D P : Type 0} (spec : Abstraction D P) (has : HasFreePlaces spec) (in_image : (d : D) → spec.data_bytes d ≡ spec.known d) (d0 d1 : D) (p : P) (out : List (Option P)) (offset asked : ℕ) (bytes chunk : List ℕ) (long : length chunk ≡ min asked (spec.means d1 p).length) (short : length chunk ≤ length bytes) (part : (i : ℕ) → i < length chunk → byte_at chunk i ≡ byte_at bytes i)
+module _ {D P : Type 0} (spec : Abstraction D P) (has : HasFreePlaces spec) (in_image : (d : D) (out : List (Option P)) → spec.is_sound d out → spec.data_bytes d ≡ spec.known d) (d0 d1 : D) (p : P) (out : List (Option P)) (offset asked : ℕ) (bytes chunk : List ℕ) (long : length chunk ≡ min asked (spec.means d1 p).length) (short : length chunk ≤ length bytes) (part : (i : ℕ) → i < length chunk → byte_at chunk i ≡ byte_at bytes i)
     (positive : 0 < (spec.setting d0).cluster_size) (none : length bytes ≡ 0 → (spec.means d1 p).length ≡ 0) (most : length bytes < (spec.means d1 p).length → asked < (spec.means d1 p).length) where
   abbrev Ready : Type 0
   Ready =
@@ -133,9 +133,9 @@ module _ {D P : Type 0} (spec : Abstraction D P) (has : HasFreePlaces spec) (in_
   guest1 : Ready → shift (guest_of (abstract_image spec d1 (Some p ∷ out))) ≡ guest_of (abstract_image spec d0 out)
   guest1 r = ap shift r.1 ∙ shift_slot (guest_of (abstract_image spec d0 (None ∷ out))) (Some (spec.means d1 p))
 
-  puts_within : Ready → IsWithin (abstract_image spec d1 (Some p ∷ out)) put_given_bytes given_bytes
-  puts_within r = record {
-    values = λ o w h. ⊎_elim (λ (e : w ≡ (guest_of (abstract_image spec d1 (Some p ∷ out))).disk.value o). inl (e ∙ ap (λ (d : Disk). d.value o) (shown_is (abstract_image spec d1 (Some p ∷ out)) (in_image d1)))) (λ (g : IsGiven given_bytes o w). inr g)
+  puts_within : spec.is_sound d1 (Some p ∷ out) → Ready → IsWithin (abstract_image spec d1 (Some p ∷ out)) put_given_bytes given_bytes
+  puts_within sound r = record {
+    values = λ o w h. ⊎_elim (λ (e : w ≡ (guest_of (abstract_image spec d1 (Some p ∷ out))).disk.value o). inl (e ∙ ap (λ (d : Disk). d.value o) (shown_is (abstract_image spec d1 (Some p ∷ out)) (in_image d1 (Some p ∷ out) sound)))) (λ (g : IsGiven given_bytes o w). inr g)
         (put_within (spec.setting d0).cluster_size (guest_of (abstract_image spec d0 out)).disk (spec.means d1 p) offset asked bytes chunk long short part r.0 (guest_of (abstract_image spec d1 (Some p ∷ out))).disk o w h);
     touches = let from = r.0.from in let few = short in touches_part (spec.setting d1).cluster_size _ _ _ _ (omega (arith, from)) (omega (arith, from, few));
   }
@@ -150,7 +150,7 @@ module _ {D P : Type 0} (spec : Abstraction D P) (has : HasFreePlaces spec) (in_
     put_refused d2 d3 e refuses discards =
         refuses_if (λ h. may_write_none e (guest_of (abstract_image spec d0 out)) (guest_of (abstract_image spec d3 out)) offset bytes
         (ap shift h.0.1 ∙ shift_slot (guest_of (abstract_image spec d2 (Some p ∷ out))) None ∙ ap shift h.0.0.1 ∙ guest1 h.0.0.0))
-        (refused_then (has.works d3 out) (refused_then (has.works d3 (None ∷ out)) (refuses_then (λ _. puts_within) ready refuses) discards) (leaves spec has d3 out))
+        (refused_then (has.works d3 out) (refused_then (has.works d3 (None ∷ out)) (refuses_then (λ sound. puts_within (ready.answer sound).0) ready refuses) discards) (leaves spec has d3 out))
 
     module _ (d2 : D) (puts : AnsweredEffect (abstract_image spec d1 (Some p ∷ out)) (abstract_image spec d2 (Some p ∷ out)) put_given_bytes []
         (guest_of (abstract_image spec d2 (Some p ∷ out)) ≡ with_slot (with_disk (guest_of (abstract_image spec d1 (Some p ∷ out))) (put_disk (guest_of (abstract_image spec d1 (Some p ∷ out))).disk (spec.means d1 p) 0 chunk)) 0 (Some (put_mapping (spec.means d1 p) 0 chunk)))) where
@@ -166,7 +166,7 @@ module _ {D P : Type 0} (spec : Abstraction D P) (has : HasFreePlaces spec) (in_
       mapping2 = put_mapping (spec.means d1 p) 0 chunk
 
       put_done : AnsweredEffect (abstract_image spec d0 out) (abstract_image spec d2 (Some p ∷ out)) given_bytes [] Put
-      put_done = does_then (λ _. puts_within) ready puts
+      put_done = does_then (λ sound. puts_within (ready.answer sound).0) ready puts
 
       guest2 : Put → shift (guest_of (abstract_image spec d2 (Some p ∷ out))) ≡ with_disk (guest_of (abstract_image spec d0 out)) disk2
       guest2 h =
@@ -187,7 +187,7 @@ module _ {D P : Type 0} (spec : Abstraction D P) (has : HasFreePlaces spec) (in_
             let there : IsGiven (given_by_commit size disk2 mapping2 ∷ []) o w =
             subst (λ (d : Disk). IsGiven (given_by_commit size d mapping2 ∷ []) o w) disk-is
             (subst (λ (m : PreparedMapping). IsGiven (given_by_commit size (guest_of (abstract_image spec d2 (Some p ∷ out))).disk m ∷ []) o w) (meaning2 h) given) in
-            ⊎_elim (λ (e : w ≡ disk2.value o). inl (e ∙ ap (λ (d : Disk). d.value o) (sym disk-is ∙ shown_is (abstract_image spec d2 (Some p ∷ out)) (in_image d2)))) (λ g. inr g)
+            ⊎_elim (λ (e : w ≡ disk2.value o). inl (e ∙ ap (λ (d : Disk). d.value o) (sym disk-is ∙ shown_is (abstract_image spec d2 (Some p ∷ out)) (in_image d2 (Some p ∷ out) (put_done.answer sound).0)))) (λ g. inr g)
             (commit_within (spec.setting d0).cluster_size (guest_of (abstract_image spec d0 out)).disk (spec.means d1 p) offset asked bytes chunk long short part h.0.0 size o w there);
         touches =
             let prepared = h.0.0 in

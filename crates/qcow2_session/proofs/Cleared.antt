@@ -1,6 +1,6 @@
 -- Clearing a range is one step of a run.
 use Rattle.std.proofs.Common.{◌≡◌, ◌∷◌, ◌+◌, ◌<◌, ◌≤◌, ◌&&◌, [], inl, inr, refl, sym, ap, ◌∙◌, subst, ℕ, Bool, true, false, IsTrue, List, Option, Some, None, arith, Result, Ok, Err, not}
-use Rattle.qcow2_session.proofs.Common.{IfOk, IfSome, OnOk, nat_lt, option_or, cases_lt, lt-ltb, common_steps, BackingView, StorageView, HeaderFields, header, cluster_size, Setting, Clearing, cleared_at, given_by_clear, with_disk, State, RefinesState, RefinesCommand, clear, done_as, refused_as, ImageError, known_in, AnswersCall, from_in, refuses_clearing, setting_of, to_in, Qcow2, Prepared, CountsImageFaults, is_writable, size_of, ImageInvariant, abstract_of, disk_of, pending_in, passes, refuse_if, unusable, header_is, disk_size, reply_of, reply_of_clearing, CommandCounts, ReportsRange, Reply}
+use Rattle.qcow2_session.proofs.Common.{IfOk, IfSome, OnOk, nat_lt, option_or, cases_lt, lt-ltb, common_steps, BackingView, StorageView, HeaderFields, header, cluster_size, Setting, Clearing, cleared_at, given_by_clear, with_disk, State, RefinesState, RefinesCommand, clear, done_as, refused_as, ImageError, known_in, AnswersGiving, from_in, refuses_clearing, setting_of, to_in, Qcow2, Prepared, CountsImageFaults, is_writable, size_of, ImageInvariant, abstract_of, disk_of, pending_in, passes, refuse_if, unusable, header_is, disk_size, reply_of, reply_of_clearing, CommandCounts, ReportsRange, Reply, Mappings}
 use Rattle.qcow2_disk.specs.ClearedCovers.{ClearsCovers, IsRightlyCleared, needs_zeros, rounds_past}
 use Rattle.qcow2_disk.specs.Rules.{answered, touched_from, touched_to}
 use Rattle.qcow2_alloc.specs.declared.error.ImageError.TheVariants as I
@@ -35,7 +35,7 @@ module _ {S F : Type 0} (view : S → StorageView) (backing : F → BackingView)
   -- what an image's call answers, whose whole clusters show this then
   abbrev IsCleared : Result (ℕ × ℕ) ImageError → Type 0
   IsCleared r =
-      AnswersCall view backing old new (given_by_clear (setting_of view backing old) (disk_of view backing old) how offset n ∷ [])
+      AnswersGiving view backing old new (λ place. given_by_clear (setting_of view backing old) (disk_of view backing place old) how offset n ∷ [])
       (λ range was is. (range ≡ answered (setting_of view backing old).cluster_size was.disk.size offset n) × (is ≡ with_disk was (cleared_at (setting_of view backing old) was.disk how offset n))) r
 
   -- what is refused before any work, and the mappings of guest clusters if it succeeds
@@ -43,10 +43,10 @@ module _ {S F : Type 0} (view : S → StorageView) (backing : F → BackingView)
   IsEarly r = IfSome (refuses_clearing old offset n how) (λ e. (r ≡ Err e) × (new ≡ old))
 
   abbrev IsCovered : Result (ℕ × ℕ) ImageError → Type 0
-  IsCovered r = (out : List (Option Prepared)) → (abstract_of view backing old out).is_sound
+  IsCovered r = (out : Mappings) → (abstract_of view backing old out).is_sound
       → OnOk r (ClearsCovers how (from_in old offset n) (to_in old offset n) old.file.header.fields (known_in view old.file) new.file.header.fields (known_in view new.file))
 
-  module _ (out : List (Option Prepared)) (sound : ImageInvariant view backing (pending_in view backing old out) old out) (sound' : ImageInvariant view backing (pending_in view backing new out) new out) where
+  module _ (out : Mappings) (sound : ImageInvariant view backing (pending_in view backing old out) old out) (sound' : ImageInvariant view backing (pending_in view backing new out) new out) where
     -- the same of the headers that the known bytes hold
     rightly_cleared : (passes (size_of old) offset n ≡ false) × ((needs_zeros how && nat_lt old.file.header.fields.version 3) ≡ false) × (rounds_past (cluster_size old.file.header.fields) (size_of old) offset n ≡ false)
         → ClearsCovers how (from_in old offset n) (to_in old offset n) old.file.header.fields (known_in view old.file) new.file.header.fields (known_in view new.file)
@@ -60,7 +60,7 @@ module _ {S F : Type 0} (view : S → StorageView) (backing : F → BackingView)
               (subst (λ (h : HeaderFields). ClearsCovers how (from_in old offset n) (to_in old offset n) old.file.header.fields (known_in view old.file) h (known_in view new.file)) (sym (header_is view backing new out sound')) covers);
         }
 
-  clears_as : (out : List (Option Prepared)) (x : Setting) (s : State) (r : Result (ℕ × ℕ) ImageError) → RefinesState x (abstract_of view backing old out) s → IsEarly r → IsCovered r → IsCleared r
+  clears_as : (out : Mappings) (x : Setting) (s : State) (r : Result (ℕ × ℕ) ImageError) → RefinesState x (abstract_of view backing old out) s → IsEarly r → IsCovered r → IsCleared r
       → RefinesCommand x (abstract_of view backing old out) (abstract_of view backing new out) s (clear how offset n) (reply_of (reply_of_clearing r))
   clears_as out x s (Ok range) stands early covers sees =
       let fits = allowed _ (λ e h. not_both h) (unusable old) (not (is_writable old)) (passes (size_of old) offset n) (needs_zeros how && nat_lt old.file.header.fields.version 3) (rounds_past (cluster_size old.file.header.fields) (size_of old) offset n) early in
@@ -73,7 +73,7 @@ module _ {S F : Type 0} (view : S → StorageView) (backing : F → BackingView)
       (does_if (λ h. (ap (λ (r : ℕ × ℕ). r.0) h.0, ap (λ (r : ℕ × ℕ). r.1) h.0, h.1)) (sees out)) (λ f. f) (λ _ _. refl) (λ sound. rightly_cleared out sound ((sees out).answer sound).0 fits (covers out sound))
   clears_as out x s (Err e) stands early covers sees = refused_as x _ _ s _ _ _ _ refl stands (record { sized = λ _. tt; failed = λ f. error_is (first_of_all old _ _ early f); may = λ _. tt }) (sees out) (λ f. f) (λ f. f) (λ _ _. refl) tt
 
-  pub clears_command_step : (out : List (Option Prepared)) (x : Setting) (s : State) (r : Result (ℕ × ℕ) ImageError) (reply : Reply) → reply ≡ reply_of_clearing r → RefinesState x (abstract_of view backing old out) s → IsEarly r → IsCovered r → IsCleared r
+  pub clears_command_step : (out : Mappings) (x : Setting) (s : State) (r : Result (ℕ × ℕ) ImageError) (reply : Reply) → reply ≡ reply_of_clearing r → RefinesState x (abstract_of view backing old out) s → IsEarly r → IsCovered r → IsCleared r
       → RefinesCommand x (abstract_of view backing old out) (abstract_of view backing new out) s (clear how offset n) (reply_of reply)
   clears_command_step out x s r reply is stands early covers sees =
       subst (λ q. RefinesCommand x (abstract_of view backing old out) (abstract_of view backing new out) s (clear how offset n) (reply_of q)) (sym is) (clears_as out x s r stands early covers sees)

@@ -41,7 +41,7 @@ pub use Rattle.qcow2_image.proofs.Prepare.PinnedL2Tables.{freed_untaken, met_unt
 pub use Rattle.qcow2_image.proofs.Call.FaultCounts.{faults_then, counted_on, counted_since, each_since, fewer_of, rose_after, tells_since, untouched, counted_still}
 pub use Rattle.qcow2_image.proofs.Call.OnceWritten.{changes_before, counts_on, counts_still, counts_released, changes_later, once_none}
 pub use Rattle.qcow2_image.proofs.Call.Unlimited.{fault_unlimited, storage_unlimited}
-pub use Rattle.qcow2_image.proofs.Images.Free.{free_places, whole, nothing_since}
+pub use Rattle.qcow2_image.proofs.Images.Free.{free_places, data_inside, whole, nothing_since}
 pub use Rattle.qcow2_image.proofs.Images.HiddenBytes.{header_is, hidden_in}
 pub use Rattle.qcow2_image.proofs.Images.Sizes.{disk_size, sound_is_usable}
 pub use Rattle.qcow2_image.proofs.Images.UngivenCovers.{touches_part, touches_less}
@@ -51,13 +51,13 @@ pub use Rattle.qcow2_image.proofs.Prepare.LimitCauses.{limited_from, other_limit
 pub use Rattle.qcow2_image.proofs.Resize.Shrinking.{fault_of}
 pub use Rattle.qcow2_image.specs.Backings.{HasPinnedMapping}
 pub use Rattle.qcow2_image.specs.BehindHeader.{PreservesHeaderCluster}
-pub use Rattle.qcow2_image.specs.Calls.{refusal_of, AnswersCall, reason_of, Commits, FlushesImage, Prepares}
+pub use Rattle.qcow2_image.specs.Calls.{refusal_of, AnswersGiving, AnswersCall, reason_of, Commits, FlushesImage, Prepares}
 pub use Rattle.qcow2_image.specs.Clearing.{IsUnderMapping, from_in, refuses_clearing, to_in, setting_of}
 pub use Rattle.qcow2_image.specs.Faults.{CountsImageFaults, IsNotOfStorage, SameFaults, NoFewerFaults, ReportsFault}
 pub use Rattle.qcow2_image.specs.Found.{l1_index_of, IsFoundWhole, found_kind, further_by, mapping_of}
 pub use Rattle.qcow2_image.specs.HeldMappings.{FitsTables, IsCompressedInTables, IsHeldAs, IsHeldRun, RefusesHeld}
 pub use Rattle.qcow2_image.specs.Image.{HasPinnedTable, is_beside, place_in, is_failed, lacks_data_file, is_writable, size_of, number_of, IsSameImage, storage_of_image, HasNothingToFree}
-pub use Rattle.qcow2_image.specs.ImageInvariant.{abstract_of, ImageInvariant, disk_of, pending_in, meaning, backing_bytes, IsReadyWith, image_abstraction, to_free, of_tables, of_data, IsPending, cluster_of, pins_by, IsHonestBacking}
+pub use Rattle.qcow2_image.specs.ImageInvariant.{abstract_of, ImageInvariant, disk_of, pending_in, meaning, backing_bytes, IsReadyWith, image_abstraction, abstraction_at, Mappings, in_image, set_slot, over_slots, to_free, of_tables, of_data, IsPending, cluster_of, pins_by, IsHonestBacking}
 pub use Rattle.qcow2_image.specs.L1Entries.{NeedsOverflowingL1Entry}
 pub use Rattle.qcow2_image.specs.Limits.{IsLimited, IfLimit}
 pub use Rattle.qcow2_image.specs.ListedClusters.{ListsNoMore}

@@ -1,6 +1,6 @@
 -- The disk of an image is made equal to a raw disk, range by range.
 use Rattle.std.proofs.Common.{◌≡◌, ◌⊎◌, ◌+◌, ◌-◌, ◌*◌, ◌/◌, ◌%◌, ◌<◌, ◌≤◌, ◌∷◌, ◌++◌, ⊎_elim, inl, inr, ℕ, List, [], replicate, take, drop, length, refl, sym, ap, ◌∙◌, subst, arith, Option, Result, Ok, Err}
-use Rattle.qcow2_session.proofs.Common.{div-add-mod, mod-eq_of_lt, zero-mod, mul-add-mod_self_left, cases_lt, common_steps, length-replicate, bytes_at, same_contents, length-bytes_at, byte_at-bytes_at, byte_at, known_byte, Disk, with_bytes, GivenBytes, IsGiven, given_of, Setting, AbstractImage, Guest, guest_of, Refusal, memory, storage, not_compressed, another, AnsweredEffect, RefusedEffect, Shows, MayWrite, WritesSome, IsSame, with_disk, BackingView, StorageView, ImageError, refusal_of, FlushesImage, Qcow2, Prepared, size_of, abstract_of, HasWritten, ReadsInto, Writes, EndsCluster, cluster_size_of, RefusedConversion, HasSome, IsRawOf, Imports, ImportsAll, ImportsAt, ImportsAny, ImportsAnyAt, ImportsAnyOf, stops_none, rests_none, touches_part}
+use Rattle.qcow2_session.proofs.Common.{div-add-mod, mod-eq_of_lt, zero-mod, mul-add-mod_self_left, cases_lt, common_steps, length-replicate, bytes_at, same_contents, length-bytes_at, byte_at-bytes_at, byte_at, known_byte, Disk, with_bytes, GivenBytes, IsGiven, given_of, Setting, AbstractImage, Guest, guest_of, Refusal, memory, storage, not_compressed, another, AnsweredEffect, RefusedEffect, Shows, MayWrite, WritesSome, IsSame, with_disk, BackingView, StorageView, ImageError, refusal_of, FlushesImage, Qcow2, Prepared, size_of, abstract_of, HasWritten, ReadsInto, Writes, EndsCluster, cluster_size_of, RefusedConversion, HasSome, IsRawOf, Imports, ImportsAll, ImportsAt, ImportsAny, ImportsAnyAt, ImportsAnyOf, stops_none, rests_none, touches_part, Mappings}
 use Rattle.qcow2_session.proofs.Bytes.{cut_short, cut_part, byte_in, byte_out, cases_place, no_bytes, same_values, part_within, rest_long, rest_part}
 use Rattle.qcow2_session.proofs.Chunks.{may_write_none}
 use Rattle.qcow2_session.proofs.Turns.{IsWithin, all_within, none_within, does_if, does_why, does_less, does_then, acts_less, acts_then}
@@ -172,7 +172,7 @@ module _ (old mid new : AbstractImage) (contents : List ℕ) (at count : ℕ) (f
 module _ {S F : Type 0} (view : S → StorageView) (backing : F → BackingView) (old new : Qcow2 S F) (at : ℕ) (bytes : List ℕ) where
   -- nothing was written
   pub at_refused : (e : ImageError) (r : Result (Unit {0}) ImageError) → r ≡ Err e
-      → ((out : List (Option Prepared)) → RefusedConversion (abstract_of view backing old out) (abstract_of view backing new out) [] (refusal_of e) (IsSame (abstract_of view backing old out) (abstract_of view backing new out)))
+      → ((out : Mappings) → RefusedConversion (abstract_of view backing old out) (abstract_of view backing new out) [] (refusal_of e) (IsSame (abstract_of view backing old out) (abstract_of view backing new out)))
       → ImportsAt view backing old new at bytes r
   at_refused e r is off = subst (λ x. ImportsAt view backing old new at bytes x) (sym is) (λ out.
       interrupted_if (λ same start short. may_write_none (refusal_of e) (guest_of (abstract_of view backing old out)) (guest_of (abstract_of view backing new out)) at bytes same)
@@ -186,7 +186,7 @@ module _ {S F : Type 0} (view : S → StorageView) (backing : F → BackingView)
       (does_less (none_within (abstract_of view backing old out) (given_of at bytes ∷ [])) (reads out))
 
   module _ (mid : Qcow2 S F) (present : List ℕ) (reads : ReadsInto view backing old mid at present (Ok tt)) (wanted : List ℕ) (are : wanted ≡ bytes) where
-    read_same : (out : List (Option Prepared)) → AnsweredEffect (abstract_of view backing old out) (abstract_of view backing mid out) (given_of at wanted ∷ []) [] (guest_of (abstract_of view backing mid out) ≡ guest_of (abstract_of view backing old out))
+    read_same : (out : Mappings) → AnsweredEffect (abstract_of view backing old out) (abstract_of view backing mid out) (given_of at wanted ∷ []) [] (guest_of (abstract_of view backing mid out) ≡ guest_of (abstract_of view backing old out))
     read_same out = does_if (λ h. h.1) (does_less (none_within (abstract_of view backing old out) (given_of at wanted ∷ [])) (reads out))
 
     -- they are written
@@ -196,7 +196,7 @@ module _ {S F : Type 0} (view : S → StorageView) (backing : F → BackingView)
 
     -- the write was refused
     pub at_unwritten : (e : ImageError) (n : ℕ) → Writes view backing mid new at wanted (Err (e, n))
-        → ((out : List (Option Prepared)) → (abstract_of view backing mid out).is_sound → 0 < n → (n < length wanted) × EndsCluster mid (at + n)) → ImportsAt view backing old new at bytes (Err e)
+        → ((out : Mappings) → (abstract_of view backing mid out).is_sound → 0 < n → (n < length wanted) × EndsCluster mid (at + n)) → ImportsAt view backing old new at bytes (Err e)
     at_unwritten e n writes ends = subst (λ (b : List ℕ). ImportsAt view backing old new at b (Err e)) are (λ out.
         let first = read_same out in
         interrupted_if (λ h start short.
@@ -249,7 +249,7 @@ module _ {S F : Type 0} (view : S → StorageView) (backing : F → BackingView)
         interrupted_if (λ h. (length contents, inr refl, may_write_all (refusal_of e) (guest_of (abstract_of view backing old out)) (guest_of (abstract_of view backing new out)) contents (h.1 ∙ h.0)))
         (interrupted_then (λ _ _. none_within (abstract_of view backing mid out) (given_of 0 contents ∷ [])) (all out) (interrupted (flush out))))
 
-    pub imports_flushed : (n : ℕ) → n ≡ length contents → ((out : List (Option Prepared)) → (abstract_of view backing old out).is_sound → length contents ≡ (guest_of (abstract_of view backing old out)).disk.size)
+    pub imports_flushed : (n : ℕ) → n ≡ length contents → ((out : Mappings) → (abstract_of view backing old out).is_sound → length contents ≡ (guest_of (abstract_of view backing old out)).disk.size)
         → ImportsAll view backing old mid contents (Ok tt) → FlushesImage view backing mid new (Ok tt) → Imports view backing old new contents (Ok n)
     imports_flushed n count sized all flush out =
         let v = abstract_of view backing old out in
@@ -260,9 +260,9 @@ module _ {S F : Type 0} (view : S → StorageView) (backing : F → BackingView)
         (does_why (sized out) (does_then (λ _ _. none_within (abstract_of view backing mid out) (given_of 0 contents ∷ [])) (all out) (flush out)))
 
     module _ (at count : ℕ) (fits : at + count ≤ length contents) (chunk : List ℕ) (is : chunk ≡ bytes_at contents at count)
-        (first : (out : List (Option Prepared)) → AnsweredEffect (abstract_of view backing old out) (abstract_of view backing mid out) (given_of 0 contents ∷ []) []
+        (first : (out : Mappings) → AnsweredEffect (abstract_of view backing old out) (abstract_of view backing mid out) (given_of 0 contents ∷ []) []
         (guest_of (abstract_of view backing mid out) ≡ with_disk (guest_of (abstract_of view backing old out)) (with_bytes (guest_of (abstract_of view backing old out)).disk 0 (take at contents)))) where
-      pub all_more : ImportsAt view backing mid new at chunk (Ok tt) → (out : List (Option Prepared)) → AnsweredEffect (abstract_of view backing old out) (abstract_of view backing new out) (given_of 0 contents ∷ []) []
+      pub all_more : ImportsAt view backing mid new at chunk (Ok tt) → (out : Mappings) → AnsweredEffect (abstract_of view backing old out) (abstract_of view backing new out) (given_of 0 contents ∷ []) []
           (guest_of (abstract_of view backing new out) ≡ with_disk (guest_of (abstract_of view backing old out)) (with_bytes (guest_of (abstract_of view backing old out)).disk 0 (take (at + count) contents)))
       all_more next out = imports_more (abstract_of view backing old out) (abstract_of view backing mid out) (abstract_of view backing new out) contents at count fits chunk is (first out) (next out)
 

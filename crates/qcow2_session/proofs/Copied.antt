@@ -1,7 +1,7 @@
 -- What a write leaves: copied data, in the image's own file.
 use Rattle.std.proofs.Common.{◌≡◌, ◌+◌, ◌-◌, ◌*◌, ◌/◌, ◌%◌, ◌^◌, ◌<◌, ◌≤◌, ◌∷◌, ⊎_elim, inl, inr, ℕ, Bool, true, false, Option, Some, None, List, [], drop, length, take, is_some, refl, sym, ap, ◌∙◌, subst, arith, Ok, not}
 use Rattle.qcow2_image.specs.Found.{kind_in}
-use Rattle.qcow2_session.proofs.Common.{IsSome, common_steps, div-div-eq-div-mul, cases_lt, cond-false, le-ltb, div-add-mod', div-mul-add, mod_below, pow_pos, BackingView, StorageView, Bytes, cover, cluster_size, entries_per_cluster, HeaderFields, L2Mapping, Data, Zero, Compressed, Uncovered, Setting, AreDataAt, IsAlike, IsDataAt, EffectOnSound, raw, rest_of_table, given_of, is_copied_data, IsRightlyWritten, GivenBytes, IsUngiven, Touches, contents_in, known_in, IsEntryAt, ShowsKnown, header_is, l1_index_of, mapping_of, abstract_of, meaning, pending_in, ImageInvariant, is_beside, guest_offset_of, length_of, offset_of, IsAnswered, Prepares, StandsByPart, LeavesCopied, Writes, ReleasesOneMapping, Qcow2, Prepared}
+use Rattle.qcow2_session.proofs.Common.{IsSome, common_steps, div-div-eq-div-mul, cases_lt, cond-false, le-ltb, div-add-mod', div-mul-add, mod_below, pow_pos, BackingView, StorageView, Bytes, cover, cluster_size, entries_per_cluster, HeaderFields, L2Mapping, Data, Zero, Compressed, Uncovered, Setting, AreDataAt, IsAlike, IsDataAt, EffectOnSound, raw, rest_of_table, given_of, is_copied_data, IsRightlyWritten, GivenBytes, IsUngiven, Touches, contents_in, known_in, IsEntryAt, ShowsKnown, header_is, l1_index_of, mapping_of, abstract_of, meaning, pending_in, ImageInvariant, is_beside, guest_offset_of, length_of, offset_of, IsAnswered, Prepares, StandsByPart, LeavesCopied, Writes, ReleasesOneMapping, Qcow2, Prepared, Mappings}
 use Rattle.std.proofs.Math.Pow.{shr_mono}
 use Rattle.qcow2_metadata.specs.Entries.{host_offset, l1_entry}
 use Rattle.qcow2_alloc.proofs.KeptTables.Mapping.{shown_if}
@@ -98,7 +98,7 @@ module _ {S F : Type 0} (view : S → StorageView) where
             subst (λ k. is_copied_data (cover h known k) ≡ true) here (each 0 some)
       ]
 
-  module _ (backing : F → BackingView) (image : Qcow2 S F) (out : List (Option Prepared)) (sound : ImageInvariant view backing (pending_in view backing image out) image out) where
+  module _ (backing : F → BackingView) (image : Qcow2 S F) (out : Mappings) (sound : ImageInvariant view backing (pending_in view backing image out) image out) where
     abbrev h : HeaderFields
     h = image.file.header.fields
 
@@ -181,7 +181,7 @@ pub existing_or_not : {X : Type 0} (table : Option ℕ) → (table ≡ None → 
 existing_or_not None existing not = existing refl
 existing_or_not (Some t) existing not = not refl
 
-module _ {S F : Type 0} (view : S → StorageView) (backing : F → BackingView) (old new : Qcow2 S F) (out : List (Option Prepared)) where
+module _ {S F : Type 0} (view : S → StorageView) (backing : F → BackingView) (old new : Qcow2 S F) (out : Mappings) where
   -- clusters stay as large
   pub same_size : {given : List GivenBytes} {asked : List ℕ} → EffectOnSound (abstract_of view backing old out) (abstract_of view backing new out) given asked → cluster_size new.file.header.fields ≡ cluster_size old.file.header.fields
   same_size effect = ap (λ (x : Setting). x.cluster_size) effect.setting
@@ -195,7 +195,7 @@ module _ {S F : Type 0} (view : S → StorageView) (backing : F → BackingView)
       ∙ effect.beside sound' g untouched
       ∙ ap (λ (h : HeaderFields). cover h (known_in view new.file) g) (header_is view backing new out sound')
 
-module _ {S F : Type 0} (view : S → StorageView) (backing : F → BackingView) (old new : Qcow2 S F) (out : List (Option Prepared))
+module _ {S F : Type 0} (view : S → StorageView) (backing : F → BackingView) (old new : Qcow2 S F) (out : Mappings)
     (sound : ImageInvariant view backing (pending_in view backing old out) old out) (sound' : ImageInvariant view backing (pending_in view backing new out) new out) where
   -- what a part of a write leaves is still copied data after the next part
   range_on : (offset at done count : ℕ) (bytes : List ℕ) → at ≡ offset + done → EffectOnSound (abstract_of view backing old out) (abstract_of view backing new out) (given_of at bytes ∷ []) []
@@ -257,11 +257,11 @@ byte_stays h h' known known' g host o place size here is was now =
     let same : now.0 ≡ host = omega (arith, first, a, b, rest) in
     ap (cover h' known') (sym there) ∙ now.1 ∙ ap (λ n. Data n true) same
 
-module _ {S F : Type 0} (view : S → StorageView) (backing : F → BackingView) (old mid new : Qcow2 S F) (out : List (Option Prepared))
+module _ {S F : Type 0} (view : S → StorageView) (backing : F → BackingView) (old mid new : Qcow2 S F) (out : Mappings)
     (sound : ImageInvariant view backing (pending_in view backing old out) old out) (sound' : ImageInvariant view backing (pending_in view backing new out) new out) where
   -- the first part of a write: a mapping was prepared and put, and its first bytes are copied data at its place
   pub part_copied : (offset : ℕ) (p : Prepared) (bytes chunk : List ℕ) → 0 < length chunk → length chunk ≤ length_of p → guest_offset_of p ≡ offset
-      → IsAnswered old.file.header.fields (known_in view old.file) offset (length bytes) mid.file.header.fields (known_in view mid.file) p (meaning view backing mid p)
+      → IsAnswered old.file.header.fields (known_in view old.file) offset (length bytes) mid.file.header.fields (known_in view mid.file) p (meaning view backing out.place mid p)
       → Prepares view backing old mid offset (length bytes) true (Ok p) → EffectOnSound (abstract_of view backing old out) (abstract_of view backing new out) (given_of offset chunk ∷ []) []
       → AreDataAt new.file.header.fields (known_in view new.file) true offset (offset_of p) (length chunk) → LeavesCopied view backing old new offset bytes (length chunk)
   part_copied offset p bytes chunk some fits begins answered prepares effect stood =
@@ -287,7 +287,7 @@ module _ {S F : Type 0} (view : S → StorageView) (backing : F → BackingView)
             let h = old.file.header.fields in
             let size = cluster_size h in
             let known = known_in view old.file in
-            let m = meaning view backing mid p in
+            let m = meaning view backing out.place mid p in
             let at = byte_of h offset (length chunk) g touched in
             let lt = at.1 in
             let copied : is_copied_data (cover h known ((offset + at.0) / size)) ≡ true = ap (λ k. is_copied_data (cover h known k)) at.2 ∙ ap is_copied_data is in
@@ -297,7 +297,7 @@ module _ {S F : Type 0} (view : S → StorageView) (backing : F → BackingView)
             byte_stays h new.file.header.fields known (known_in view new.file) g host (offset + at.0) (offset_of p + at.0) (same_size view backing old new out effect) at.2 is (answered.in_place at.0 (omega (arith, lt, fits)) visible) (stood at.0 lt));
       }
 
-module _ {S F : Type 0} (view : S → StorageView) (backing : F → BackingView) (begin old new : Qcow2 S F) (out : List (Option Prepared))
+module _ {S F : Type 0} (view : S → StorageView) (backing : F → BackingView) (begin old new : Qcow2 S F) (out : Mappings)
     (sound : ImageInvariant view backing (pending_in view backing old out) old out) (sound' : ImageInvariant view backing (pending_in view backing new out) new out) where
   -- one part after others
   pub copied_on : (offset at done count : ℕ) (bytes : List ℕ) → done ≤ length bytes → at ≡ offset + done → Writes view backing begin old offset (take done bytes) (Ok tt) → 0 < done
@@ -352,7 +352,7 @@ module _ {S F : Type 0} (view : S → StorageView) (backing : F → BackingView)
           }
 
 -- what a run reports, by the header in the known bytes
-pub rightly_written : {S F : Type 0} (view : S → StorageView) (backing : F → BackingView) (image : Qcow2 S F) (out : List (Option Prepared)) → ImageInvariant view backing (pending_in view backing image out) image out → (offset n : ℕ)
+pub rightly_written : {S F : Type 0} (view : S → StorageView) (backing : F → BackingView) (image : Qcow2 S F) (out : Mappings) → ImageInvariant view backing (pending_in view backing image out) image out → (offset n : ℕ)
     → (0 < n → AreCopied view offset (offset + n) image) → IsRightlyWritten offset n (known_in view image.file)
 rightly_written view backing image out sound offset n copied =
     let known = known_in view image.file in

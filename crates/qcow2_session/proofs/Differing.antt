@@ -1,6 +1,6 @@
 -- Bytes that the disk already has are never refused as ones that may not be written.
 use Rattle.std.proofs.Common.{◌≡◌, ◌+◌, ◌<◌, ◌≤◌, ◌∷◌, inl, inr, ℕ, Bool, true, false, List, [], take, length, refl, sym, ap, ◌∙◌, subst, arith, IfErr, Option, Result, Ok, Err}
-use Rattle.qcow2_session.proofs.Common.{MatchOption, option_or, BackingView, bytes_at, HasCause, StorageView, StorageError, same_contents, length-bytes_at, byte_at-bytes_at, known_byte, Disk, with_bytes, given_of, Guest, guest_of, AnsweredEffect, Shows, with_disk, of_storage, ImageError, lacks_data_file, is_failed, size_of, MayFailToRead, passes, refuse_if, refuses_to_read, Qcow2, Prepared, abstract_of, IsOfReading, ReadsInto, DiffersWhereKept, IsKeptFromWriting, IsRefusedUnequal}
+use Rattle.qcow2_session.proofs.Common.{MatchOption, option_or, BackingView, bytes_at, HasCause, StorageView, StorageError, same_contents, length-bytes_at, byte_at-bytes_at, known_byte, Disk, with_bytes, given_of, Guest, guest_of, AnsweredEffect, Shows, with_disk, of_storage, ImageError, lacks_data_file, is_failed, size_of, MayFailToRead, passes, refuse_if, refuses_to_read, Qcow2, Prepared, abstract_of, IsOfReading, ReadsInto, DiffersWhereKept, IsKeptFromWriting, IsRefusedUnequal, Mappings}
 use Rattle.image_access.specs.declared.error.StorageError.TheVariants as S
 use Rattle.qcow2_alloc.specs.declared.error.ImageError.TheVariants as I
 use Rattle.qcow2_session.proofs.Lemmas.{cut_part, cut_short, shows_as, shown_same}
@@ -77,7 +77,7 @@ module _ {S F : Type 0} (view : S → StorageView) (backing : F → BackingView)
 -- ---- all ranges, in the calls' words
 
 module _ {S F : Type 0} (view : S → StorageView) (backing : F → BackingView) (old mid : Qcow2 S F) (contents : List ℕ) (at count : ℕ) (fits : at + count ≤ length contents) (chunk : List ℕ) (is : chunk ≡ bytes_at contents at count)
-    (first : (out : List (Option Prepared)) → AnsweredEffect (abstract_of view backing old out) (abstract_of view backing mid out) (given_of 0 contents ∷ []) []
+    (first : (out : Mappings) → AnsweredEffect (abstract_of view backing old out) (abstract_of view backing mid out) (given_of 0 contents ∷ []) []
     (guest_of (abstract_of view backing mid out) ≡ with_disk (guest_of (abstract_of view backing old out)) (with_bytes (guest_of (abstract_of view backing old out)).disk 0 (take at contents)))) where
   -- a disk that has all of the bytes has them still where the first ones are written
   pub part_differs : (e : ImageError) → DiffersWhereKept view backing mid at chunk e → DiffersWhereKept view backing old 0 contents e

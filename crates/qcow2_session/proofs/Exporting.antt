@@ -1,12 +1,13 @@
 -- A raw disk is made equal to the disk of an image, range by range.
 use Rattle.std.proofs.Common.{◌≡◌, ◌+◌, ◌-◌, ◌/◌, ◌<◌, ◌≤◌, false, inl, inr, ℕ, Bool, List, [], is_some, length, refl, replicate, sym, ap, ◌∙◌, subst, arith, None, Option, Result, Err}
-use Rattle.qcow2_session.proofs.Common.{cases_lt, common_steps, length-replicate, get_or-replicate, option_or, BackingView, overwritten, resized, StorageView, length-resized, byte_at-resized, byte_at-resized_past, length-overwritten_within, byte_at-overwritten, byte_at-overwritten_below, byte_at-overwritten_behind, byte_at, cover, known_byte, cluster_size, HeaderFields, Disk, Guest, guest_of, AnsweredEffect, Shows, IsSame, IsFoundIn, known_in, state_in, ImageError, refusal_of, IsSameImage, is_failed, size_of, passes, refuse_if, refuses_to_read, unusable, Qcow2, Prepared, ImageInvariant, abstract_of, backing_bytes, disk_of, pending_in, header_is, RefusedConversion, IsRawOf, IsUnchanged, IsFilledUpTo, Fills}
+use Rattle.qcow2_session.proofs.Common.{cases_lt, common_steps, length-replicate, get_or-replicate, option_or, BackingView, overwritten, resized, StorageView, length-resized, byte_at-resized, byte_at-resized_past, length-overwritten_within, byte_at-overwritten, byte_at-overwritten_below, byte_at-overwritten_behind, byte_at, cover, known_byte, cluster_size, HeaderFields, Disk, Guest, guest_of, AnsweredEffect, Shows, IsSame, IsFoundIn, known_in, state_in, ImageError, refusal_of, IsSameImage, is_failed, size_of, passes, refuse_if, refuses_to_read, unusable, Qcow2, Prepared, ImageInvariant, abstract_of, backing_bytes, disk_of, pending_in, header_is, RefusedConversion, IsRawOf, IsUnchanged, IsFilledUpTo, Fills, Mappings}
 use Rattle.qcow2_disk.specs.Found.{IsFound as IsFoundOf}
 use Rattle.qcow2_disk.specs.Found as K
 use Rattle.qcow2_alloc.specs.declared.error.ImageError.TheVariants as I
 use Rattle.qcow2_image.proofs.Map.Reading.{none_below, zero_shown}
 use Rattle.qcow2_session.proofs.Causing.{then_none}
 use Rattle.qcow2_session.proofs.Parts.{not_failed_yet, part_reads}
+use Rattle.qcow2_image.proofs.Images.Places.{inside_of, from_image}
 
 -- a range of zeros isn't written
 pub filled_same : (d : Disk) (size at n : ℕ) (contents bytes : List ℕ) → IsFilledUpTo d size at contents → Shows d at bytes → bytes ≡ replicate n 0 → IsFilledUpTo d size (at + n) contents
@@ -58,12 +59,12 @@ filled_all d size bytes filled is =
 module _ {S F : Type 0} (view : S → StorageView) (backing : F → BackingView) (old new : Qcow2 S F) where
   -- a refusal that was passed on
   pub unchanged_refused : {A : Type 0} (e : ImageError) (r : Result A ImageError) → r ≡ Err e
-      → ((out : List (Option Prepared)) → RefusedConversion (abstract_of view backing old out) (abstract_of view backing new out) [] (refusal_of e) (IsSame (abstract_of view backing old out) (abstract_of view backing new out)))
+      → ((out : Mappings) → RefusedConversion (abstract_of view backing old out) (abstract_of view backing new out) [] (refusal_of e) (IsSame (abstract_of view backing old out) (abstract_of view backing new out)))
       → IsUnchanged view backing old new r
   unchanged_refused e r is off = subst (λ x. IsUnchanged view backing old new x) (sym is) off
 
   -- one range after others; here new is the image between them
-  pub fills_more : (from at n m : ℕ) (a b c : List ℕ) → ((out : List (Option Prepared)) → AnsweredEffect (abstract_of view backing old out) (abstract_of view backing new out) [] [] (guest_of (abstract_of view backing new out) ≡ guest_of (abstract_of view backing old out)))
+  pub fills_more : (from at n m : ℕ) (a b c : List ℕ) → ((out : Mappings) → AnsweredEffect (abstract_of view backing old out) (abstract_of view backing new out) [] [] (guest_of (abstract_of view backing new out) ≡ guest_of (abstract_of view backing old out)))
       → Fills view backing old from at a b → Fills view backing new at (at + n) b c → n ≡ m → Fills view backing old from (at + m) a c
   fills_more from at n m a b c same first next count out sound size le filled =
       let mid = (same out).answer sound in
@@ -84,8 +85,8 @@ part_of_disk old mid same at n fits works none =
     all_within size = grind (arith, common_steps)
 
 -- zeros by the tables are zeros of the disk
-module _ {S F : Type 0} (view : S → StorageView) (backing : F → BackingView) (image : Qcow2 S F) (out : List (Option Prepared)) (sound : ImageInvariant view backing (pending_in view backing image out) image out) where
-  pub zeros_there : (at max n : ℕ) (explicit : Bool) → IsFoundIn (known_in view image.file) (is_some image.backing) at max (K.zeros explicit) n → Shows (disk_of view backing image) at (replicate n 0)
+module _ {S F : Type 0} (view : S → StorageView) (backing : F → BackingView) (image : Qcow2 S F) (out : Mappings) (sound : ImageInvariant view backing (pending_in view backing image out) image out) where
+  pub zeros_there : (at max n : ℕ) (explicit : Bool) → IsFoundIn (known_in view image.file) (is_some image.backing) at max (K.zeros explicit) n → Shows (disk_of view backing out.place image) at (replicate n 0)
   zeros_there at max n explicit is i lt =
       let h = image.file.header.fields in
       let known = known_in view image.file in
@@ -94,8 +95,8 @@ module _ {S F : Type 0} (view : S → StorageView) (backing : F → BackingView)
       let inside : i < n = omega (arith, lt, length-replicate {A = ℕ} n 0) in
       elim (cases_lt at h.size) [
         | inl lies ↦ let run = found.run lies in
-            zero_shown (state_in view image.file (pending_in view backing image out)) sound.file.caches.kept.kept.crash_invariant sound.inside at n run.longest.alike (is_some image.backing) below
+            from_image (λ place. (disk_of view backing place image).value (at + i) ≡ known_byte (byte_at (replicate n 0) i)) sound (zero_shown (state_in view image.file (pending_in view backing image out)) sound.file.caches.kept.kept.crash_invariant (inside_of sound) at n run.longest.alike (is_some image.backing) below
             (cover h known (at / cluster_size h)) refl (none_below view backing image.backing) explicit run.kind_is i inside
-            ∙ ap known_byte (sym (get_or-replicate n i 0 0 inside))
+            ∙ ap known_byte (sym (get_or-replicate n i 0 0 inside)))
         | inr past ↦ let never = (found.past past).0 in absurd cc
       ]

@@ -3,16 +3,17 @@ use Rattle.qcow2_alloc.specs.declared.error.ImageError.TheVariants as I
 use Rattle.qcow2_image.specs.declared.mapping.MappingKind.TheVariants as M
 use Rattle.std.proofs.Common.{if◌then◌else◌, ◌≡◌, ◌+◌, ◌-◌, ◌*◌, ◌/◌, ◌%◌, ◌^◌, ◌<◌, ◌≤◌, ◌∷◌, ◌&&◌, inl, inr, ℕ, zero, suc, Bool, true, false, List, [], Option, Some, None, refl, sym, ap, ◌∙◌, subst, arith, pow_mono, ⊎_elim, is_some}
 use Rattle.qcow2_image.specs.declared.mapping.Place.TheVariants.{DataFile}
-use Rattle.qcow2_session.proofs.Common.{file_of, place_in, IsNone, IsSome, slice_get, cases_lt, common_steps, div-add-mod', mod_below, pow_pos, BackingView, StorageView, Bytes, is_within, cover, cluster_size, header, HeaderFields, L2Mapping, Compressed, Data, Uncovered, Zero, AreDataAt, EffectOnSound, Kind, IsCompressed, IsFoundIn, eof, indirect, kind_at, raw, rest_of_table, special, zeros, Touches, contents_in, known_in, ImageError, header_is, HasPinnedMapping, IsFoundWhole, found_kind, further_by, size_of, ImageInvariant, IsReadyWith, abstract_of, meaning, pending_in, IsUnlimited, fault_unlimited, CopiesCompressed, HasCompressedIn, IsCacheHeld, MayFailLooking, MayFailMapped, MayFailPutting, MayFailReadingRange, IsSpecial, MayFailLookingAgain, guest_offset_of, length_of, offset_of, table_of, IsAnswered, Qcow2, Image, Prepared}
+use Rattle.qcow2_session.proofs.Common.{file_of, place_in, IsNone, IsSome, slice_get, cases_lt, common_steps, div-add-mod', mod_below, pow_pos, BackingView, StorageView, Bytes, is_within, cover, cluster_size, header, HeaderFields, L2Mapping, Compressed, Data, Uncovered, Zero, AreDataAt, EffectOnSound, Kind, IsCompressed, IsFoundIn, eof, indirect, kind_at, raw, rest_of_table, special, zeros, Touches, contents_in, known_in, ImageError, header_is, HasPinnedMapping, IsFoundWhole, found_kind, further_by, size_of, ImageInvariant, IsReadyWith, abstract_of, meaning, pending_in, IsUnlimited, fault_unlimited, CopiesCompressed, HasCompressedIn, IsCacheHeld, MayFailLooking, MayFailMapped, MayFailPutting, MayFailReadingRange, IsSpecial, MayFailLookingAgain, guest_offset_of, length_of, offset_of, table_of, IsAnswered, Qcow2, Image, Prepared, Mappings}
 use Rattle.qcow2_disk.specs.Found.{IsFound as IsFoundOf}
 use Rattle.qcow2_image.proofs.Map.Looked.{compressed_there, data_found, kind_inside, found_upto, product_le}
 use Rattle.qcow2_image.proofs.Prepare.NameablePlaces.{IsNearData, cover_near}
 use Rattle.qcow2_image.proofs.Images.ClusterMappings.{never_private}
 use Rattle.qcow2_image.specs.declared.mapping.MappingKind.{MappingKind}
 use Rattle.qcow2_session.proofs.Copied.{kept_cover, same_size}
+use Rattle.qcow2_image.proofs.Images.Places.{put_first, alone_of}
 
 -- where the cache is full of tables that are held, a mapping is prepared
-pub looking_prepared : {S F : Type 0} (image : Qcow2 S F) (out : List (Option Prepared)) (e : ImageError) → MayFailLooking (IsCacheHeld image out) e → MayFailLooking (HasPinnedMapping out) e
+pub looking_prepared : {S F : Type 0} (image : Qcow2 S F) (out : Mappings) (e : ImageError) → MayFailLooking (IsCacheHeld image out) e → MayFailLooking (HasPinnedMapping out) e
 looking_prepared image out e (inl fault) = inl fault
 looking_prepared image out e (inr used) = inr (used.0, prepared used.1)
   where
@@ -76,7 +77,7 @@ compressed_within h h' known known' size same from to first last low high found 
       is = subst (λ (m : L2Mapping). IsCompressed m) (same g) found.is;
     }
 
-module _ {S F : Type 0} (view : S → StorageView) (backing : F → BackingView) (out : List (Option Prepared)) where
+module _ {S F : Type 0} (view : S → StorageView) (backing : F → BackingView) (out : Mappings) where
   -- what was just found is found as a whole, and nothing further on
   pub found_there : (image : Qcow2 S F) (sound : ImageInvariant view backing (pending_in view backing image out) image out) (offset max n : ℕ) (kind : MappingKind) → offset < 2 ^ 64 → offset < size_of image
       → IsFoundIn (known_in view image.file) (is_some image.backing) offset max (found_kind kind) n → IsFoundWhole view image offset (further_by 0 kind) n
@@ -168,15 +169,15 @@ compressed_in_part h known offset n done at m there upto begins c =
 -- ---- a put into a mapping that was just prepared
 
 -- what is prepared beside an existing one was prepared before
-prepared_beside : (out : List (Option Prepared)) (p : Prepared) → table_of p ≡ None → HasPinnedMapping (Some p ∷ out) → HasPinnedMapping out
+prepared_beside : (out : Mappings) (p : Prepared) → table_of p ≡ None → HasPinnedMapping (put_first (Some p) out) → HasPinnedMapping out
 prepared_beside out p existing has = at has.place has.mapping has.there has.pins
   where
-    at : (k : ℕ) (q : Prepared) → slice_get (Some p ∷ out) k ≡ Some (Some q) → IsSome (table_of q) → HasPinnedMapping out
+    at : (k : ℕ) (q : Prepared) → slice_get (Some p ∷ out.slots) k ≡ Some (Some q) → IsSome (table_of q) → HasPinnedMapping out
     at zero q there pins = let same : p ≡ q = cc in absurd (let no : false ≡ true = subst (λ t. IsSome t) (ap table_of (sym same) ∙ existing) pins in cc)
     at (suc k) q there pins = record { place = k; mapping = q; there = there; pins = pins }
 
 -- so bytes are put but for a fault, and where tables are held, where an existing one is found as it was prepared
-pub put_looking : (held : Type 0) (out : List (Option Prepared)) (p : Prepared) (e : ImageError) → (held → HasPinnedMapping (Some p ∷ out)) → (table_of p ≡ None → offset_of p < 2 ^ 64) → (table_of p ≡ None → e ≡ I.OutdatedMapping → ⊥)
+pub put_looking : (held : Type 0) (out : Mappings) (p : Prepared) (e : ImageError) → (held → HasPinnedMapping (put_first (Some p) out)) → (table_of p ≡ None → offset_of p < 2 ^ 64) → (table_of p ≡ None → e ≡ I.OutdatedMapping → ⊥)
     → MayFailPutting held p 0 e → MayFailLooking (HasPinnedMapping out) e
 put_looking held out p e prepared near found (inl fault) = inl fault
 put_looking held out p e prepared near found (inr again) = elim (again.1) [
@@ -194,9 +195,9 @@ put_unlimited held p at e (inr again) = ⊎_elim
     (λ (again' : MayFailLookingAgain held e). ⊎_elim (λ (looking : MayFailLooking held e). ⊎_elim (λ fault. fault_unlimited e fault) (λ used. subst IsUnlimited (sym used.0) tt) looking) (λ outdated. subst IsUnlimited (sym outdated) tt) again')
     (λ far. subst IsUnlimited (sym far.0) tt) again.1
 
-module _ {S F : Type 0} (view : S → StorageView) (backing : F → BackingView) (out : List (Option Prepared)) (old mid : Qcow2 S F) (p : Prepared) (offset n : ℕ)
-    (sound : ImageInvariant view backing (pending_in view backing mid (Some p ∷ out)) mid (Some p ∷ out)) (same : cluster_size mid.file.header.fields ≡ cluster_size old.file.header.fields)
-    (answered : IsAnswered old.file.header.fields (known_in view old.file) offset n mid.file.header.fields (known_in view mid.file) p (meaning view backing mid p)) (some : 0 < n) (existing : table_of p ≡ None) where
+module _ {S F : Type 0} (view : S → StorageView) (backing : F → BackingView) (out : Mappings) (old mid : Qcow2 S F) (p : Prepared) (offset n : ℕ)
+    (sound : ImageInvariant view backing (pending_in view backing mid (put_first (Some p) out)) mid (put_first (Some p) out)) (same : cluster_size mid.file.header.fields ≡ cluster_size old.file.header.fields)
+    (answered : IsAnswered old.file.header.fields (known_in view old.file) offset n mid.file.header.fields (known_in view mid.file) p (meaning view backing out.place mid p)) (some : 0 < n) (existing : table_of p ≡ None) where
   abbrev h : HeaderFields
   h = mid.file.header.fields
 
@@ -207,7 +208,7 @@ module _ {S F : Type 0} (view : S → StorageView) (backing : F → BackingView)
   -- it is copied data in a row
   existing_data : AreDataAt h (known_in view mid.file) true offset (offset_of p) n
   existing_data i lt =
-      let ready = subst (IsReadyWith h (known_in view mid.file) (contents_in view mid.file) p) existing (sound.ready 0 p refl).mapped in
+      let ready = subst (IsReadyWith h out.place (known_in view mid.file) (contents_in view mid.file) p) existing (sound.ready 0 p refl).mapped in
       answered.stays i (let long = existing_long in omega (arith, lt, long)) (never_private view backing mid p ready (offset + i))
 
   -- so it begins within 64 bits
@@ -233,5 +234,5 @@ module _ {S F : Type 0} (view : S → StorageView) (backing : F → BackingView)
   -- and it is found where it was prepared
   pub existing_found : offset + n ≤ size_of mid → file_of p ≡ place_in mid → guest_offset_of p ≡ offset → (m : ℕ) → m ≡ n → IsFoundWhole view mid (guest_offset_of p + 0) (M.Raw (file_of p) (offset_of p + 0) true) m
   existing_found below file from m long =
-      let here : file_of p ≡ Image = file ∙ ap (λ (f : Option S). if is_some f then DataFile else Image) sound.alone in
+      let here : file_of p ≡ Image = file ∙ ap (λ (f : Option S). if is_some f then DataFile else Image) (alone_of sound) in
       subst (λ k. IsFoundWhole view mid (guest_offset_of p + 0) (M.Raw k (offset_of p + 0) true) m) (sym here) (existing_in_image below from m long)

@@ -3,7 +3,7 @@ use Rattle.qcow2_image.specs.Prepared.{file_of}
 use Rattle.qcow2_image.specs.declared.mapping.MappingKind.TheVariants.{Raw}
 use Rattle.qcow2_image.proofs.Map.Held.{mapped_less}
 use Rattle.std.proofs.Common.{◌≡◌, ◌+◌, ◌<◌, ◌≤◌, ◌&&◌, ◌∙◌, inl, inr, ℕ, Bool, true, false, not, IsTrue, List, Option, Some, None, refl, sym, ap, arith, subst, Ok, Err, Result, is_some, IsSome}
-use Rattle.qcow2_session.proofs.Common.{nat_lt, option_or, cases_Bool, cases_lt, common_steps, Bytes, cluster_size, HeaderFields, ImageError, IsUnderMapping, IsSameImage, is_beside, lacks_data_file, is_failed, is_writable, number_of, size_of, IsUnderMappingIn, IsTaken, passes, refuse_if, refuses_mapping, refuses_to_prepare, refuses_to_read, unusable, Qcow2, Prepared, table_of, ExistsInTables, FitsTables, IsHeldAs, Mapping, further_by, IsHeldRun}
+use Rattle.qcow2_session.proofs.Common.{nat_lt, option_or, cases_Bool, cases_lt, common_steps, Bytes, cluster_size, HeaderFields, ImageError, IsUnderMapping, IsSameImage, is_beside, lacks_data_file, is_failed, is_writable, number_of, size_of, IsUnderMappingIn, IsTaken, passes, refuse_if, refuses_mapping, refuses_to_prepare, refuses_to_read, unusable, Qcow2, Prepared, table_of, ExistsInTables, FitsTables, IsHeldAs, Mapping, further_by, IsHeldRun, Mappings}
 use Rattle.qcow2_alloc.specs.declared.error.ImageError.TheVariants as I
 use Rattle.qcow2_session.proofs.Beyond.{part_passes}
 use Rattle.qcow2_session.proofs.Causing.{own_mapping, put_writes, then_none}
@@ -114,11 +114,11 @@ prepares_within image offset n none some =
 
 -- ---- a table that is prepared
 
-pub under_taken : {h : HeaderFields} {known : Bytes} {offset n : ℕ} {out : List (Option Prepared)} → IsTaken h known offset n out → IsUnderMapping h offset out
+pub under_taken : {h : HeaderFields} {known : Bytes} {offset n : ℕ} {out : Mappings} → IsTaken h known offset n out → IsUnderMapping h offset out
 under_taken taken = record { place = taken.place; other = taken.other; is_out = taken.is_out; keeps_table = taken.keeps_table; same_table = taken.same_table }
 
 -- a part of the range lies under it
-pub part_under : (h h' : HeaderFields) → cluster_size h' ≡ cluster_size h → (offset to at : ℕ) (out : List (Option Prepared)) → offset ≤ at → at < to → IsUnderMapping h' at out → IsUnderMappingIn h offset to out
+pub part_under : (h h' : HeaderFields) → cluster_size h' ≡ cluster_size h → (offset to at : ℕ) (out : Mappings) → offset ≤ at → at < to → IsUnderMapping h' at out → IsUnderMappingIn h offset to out
 part_under h h' same offset to at out from upto under = record {
   offset = at;
   low = from;

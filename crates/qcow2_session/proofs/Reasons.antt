@@ -1,7 +1,7 @@
 -- Why a range of an image that may be read is not written.
 use Rattle.qcow2_alloc.specs.declared.error.ImageError.TheVariants as I
 use Rattle.std.proofs.Common.{◌≡◌, ◌⊎◌, ◌+◌, ◌<◌, ◌≤◌, ◌&&◌, ⊎_elim, inl, inr, ℕ, Bool, true, false, not, List, [], Option, Some, None, refl, sym, ap, ◌∙◌, subst, arith, IsTrue, Result, Err}
-use Rattle.qcow2_session.proofs.Common.{MayFailOn, met_any, nat_lt, IfSome, option_or, cases_Bool, BackingView, StorageView, IsRefusalByFault, RefusedEffect, known_in, ImageError, HasPinnedMapping, refusal_of, IsSameImage, is_failed, is_writable, size_of, abstract_of, CopiesCompressed, MayFailReadingRange, MayFailAllocating, IsUnderMappingIn, MayFail, MayFailPreparing, HasPinnedTable, passes, refuse_if, refuses_to_prepare, refuses_to_read, unusable, Qcow2, Prepared, MayFailImporting, IsReasonNotToWrite, GivenBytes, IsLimited, cluster_size_of}
+use Rattle.qcow2_session.proofs.Common.{MayFailOn, met_any, nat_lt, IfSome, option_or, cases_Bool, BackingView, StorageView, IsRefusalByFault, RefusedEffect, known_in, ImageError, HasPinnedMapping, refusal_of, IsSameImage, is_failed, is_writable, size_of, abstract_of, CopiesCompressed, MayFailReadingRange, MayFailAllocating, IsUnderMappingIn, MayFail, MayFailPreparing, HasPinnedTable, passes, refuse_if, refuses_to_prepare, refuses_to_read, unusable, Qcow2, Prepared, MayFailImporting, IsReasonNotToWrite, GivenBytes, IsLimited, cluster_size_of, Mappings}
 use Rattle.qcow2_session.proofs.Lemmas.{same_error, then_none, kept_cover, same_size, compressed_within, not_failed_yet, part_reads, part_under}
 
 writing_left : (u : Option ImageError) (c t : Bool) → u ≡ None → c ≡ false → option_or u (option_or (refuse_if c I.BeyondSize) (refuse_if t I.ReadOnly)) ≡ refuse_if t I.ReadOnly
@@ -33,12 +33,12 @@ early_or_late old mid same at n works none e k X early =
     ]
 
 module _ {S F : Type 0} (view : S → StorageView) (backing : F → BackingView) (old mid new : Qcow2 S F) (same : IsSameImage old mid) (clusters : cluster_size_of mid ≡ cluster_size_of old) where
-  carried : (from to first last : ℕ) → from ≤ first → last ≤ to → (out : List (Option Prepared)) → IsUnderMappingIn mid.file.header.fields first last out → IsUnderMappingIn old.file.header.fields from to out
+  carried : (from to first last : ℕ) → from ≤ first → last ≤ to → (out : Mappings) → IsUnderMappingIn mid.file.header.fields first last out → IsUnderMappingIn old.file.header.fields from to out
   carried from to first last low high out under =
       part_under old.file.header.fields mid.file.header.fields clusters from to under.offset out (omega (arith, low, under.low)) (omega (arith, high, under.high)) under.under
 
   -- a part of a range that is looked at later
-  pub reason_within : (from to first last : ℕ) → from ≤ first → last ≤ to → (out : List (Option Prepared)) (e : ImageError) → (((given : List GivenBytes) × IsLimited view backing given last mid out) → (given : List GivenBytes) × IsLimited view backing given to old out)
+  pub reason_within : (from to first last : ℕ) → from ≤ first → last ≤ to → (out : Mappings) (e : ImageError) → (((given : List GivenBytes) × IsLimited view backing given last mid out) → (given : List GivenBytes) × IsLimited view backing given to old out)
       → IsReasonNotToWrite view backing mid new first last out e → IsReasonNotToWrite view backing old new from to out e
   reason_within from to first last low high out e wider reason = ⊎_elim
       (λ (may_fail : MayFail e × (e ≡ I.Limit → (given : List GivenBytes) × IsLimited view backing given last mid out)). inl (may_fail.0, λ is. wider (may_fail.1 is)))
@@ -49,7 +49,7 @@ module _ {S F : Type 0} (view : S → StorageView) (backing : F → BackingView)
       reason
 
   -- a write that was refused, of a range that may be read
-  pub write_reason : (written : Qcow2 S F) (at n : ℕ) → is_failed mid ≡ false → refuses_to_read old at n ≡ None → (out : List (Option Prepared)) (e : ImageError) (k : ℕ) (X : Type 0)
+  pub write_reason : (written : Qcow2 S F) (at n : ℕ) → is_failed mid ≡ false → refuses_to_read old at n ≡ None → (out : Mappings) (e : ImageError) (k : ℕ) (X : Type 0)
       → IfSome (refuses_to_prepare mid at n) (λ x. (◌≡◌ {A = Result (Unit {0}) (ImageError × ℕ)} (Err (e, k)) (Err (x, 0))) × X)
       → (refuses_to_prepare mid at n ≡ None → MayFailPreparing written e × (0 < n)) → (refuses_to_prepare mid at n ≡ None → e ≡ I.TablePrepared → IsUnderMappingIn mid.file.header.fields at (at + n) out)
       → (refuses_to_prepare mid at n ≡ None → e ≡ I.Limit → (given : List GivenBytes) × IsLimited view backing given (at + n) old out) → IsReasonNotToWrite view backing old new at (at + n) out e
@@ -63,7 +63,7 @@ module _ {S F : Type 0} (view : S → StorageView) (backing : F → BackingView)
 
 module _ {S F : Type 0} (view : S → StorageView) (new : Qcow2 S F) where
   -- a part of a range is refused for the causes of the range
-  pub importing_within : (out : List (Option Prepared)) (from to first last : ℕ) (e : ImageError) → from ≤ first → last ≤ to → MayFailImporting view first last new out e → MayFailImporting view from to new out e
+  pub importing_within : (out : Mappings) (from to first last : ℕ) (e : ImageError) → from ≤ first → last ≤ to → MayFailImporting view first last new out e → MayFailImporting view from to new out e
   importing_within out from to first last e low high (inl limit) = inl limit
   importing_within out from to first last e low high (inr (inl closed)) = inr (inl closed)
   importing_within out from to first last e low high (inr (inr (inl far))) = inr (inr (inl far))
@@ -74,7 +74,7 @@ module _ {S F : Type 0} (view : S → StorageView) (new : Qcow2 S F) where
       inr (inr (inr (inl (compressed.0, compressed_within h h known known refl (λ g. refl) from to first last low high compressed.1))))
 
   -- a read that was refused: what is compressed is so still
-  pub read_importing : {A : Type 0} (backing : F → BackingView) (old : Qcow2 S F) (out : List (Option Prepared)) (from to : ℕ) (e : ImageError) → (abstract_of view backing old out).is_sound
+  pub read_importing : {A : Type 0} (backing : F → BackingView) (old : Qcow2 S F) (out : Mappings) (from to : ℕ) (e : ImageError) → (abstract_of view backing old out).is_sound
       → RefusedEffect (abstract_of view backing old out) (abstract_of view backing new out) [] [] (refusal_of e) A → MayFailReadingRange out from to old.file.header.fields (known_in view old.file) e → MayFailImporting view from to new out e
   read_importing backing old out from to e sound refused (inl (inl fault)) = inl (inl fault)
   read_importing backing old out from to e sound refused (inl (inr used)) = inr (inr (inr (inr (inl used.0, used.1))))
@@ -89,7 +89,7 @@ module _ {S F : Type 0} (view : S → StorageView) (new : Qcow2 S F) where
       (λ (broke : IsRefusalByFault (refusal_of e) × IsTrue (abstract_of view backing new out).is_failed). absurd (subst (λ x. IsRefusalByFault (refusal_of x)) compressed.0 broke.0)) (refused.answer sound)
 
   -- a write that was refused
-  pub write_importing : {Far : Type 0} (out : List (Option Prepared)) (old mid : Qcow2 S F) → IsSameImage old mid → is_writable new ≡ is_writable mid → (at n : ℕ) → is_failed mid ≡ false → refuses_to_read old at n ≡ None → (e : ImageError) (k : ℕ) (X : Type 0)
+  pub write_importing : {Far : Type 0} (out : Mappings) (old mid : Qcow2 S F) → IsSameImage old mid → is_writable new ≡ is_writable mid → (at n : ℕ) → is_failed mid ≡ false → refuses_to_read old at n ≡ None → (e : ImageError) (k : ℕ) (X : Type 0)
       → IfSome (refuses_to_prepare mid at n) (λ x. (◌≡◌ {A = Result (Unit {0}) (ImageError × ℕ)} (Err (e, k)) (Err (x, 0))) × X)
       → (refuses_to_prepare mid at n ≡ None → MayFailAllocating (HasPinnedMapping out) (IsUnderMappingIn mid.file.header.fields at (at + n) out) (CopiesCompressed at n true new.file.header.fields (known_in view new.file)) Far e) → MayFailImporting view at (at + n) new out e
   write_importing {Far} out old mid same writable at n works none e k X early may_fail = ⊎_elim

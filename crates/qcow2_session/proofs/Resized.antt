@@ -1,6 +1,6 @@
 -- A resize is one step of a run.
 use Rattle.std.proofs.Common.{◌≡◌, ◌⊎◌, ◌∷◌, ◌-◌, ◌<◌, ◌≤◌, ◌==◌, [], inl, inr, refl, sym, ap, subst, ℕ, cond, Bool, true, false, List, Option, Some, None, arith, Result, Ok, Err, not}
-use Rattle.qcow2_session.proofs.Common.{IfSome, option_or, cases_lt, cases_eq, cond-true, cond-false, eq-eqb, ne_eqb, pow_pos, BackingView, StorageView, EachMomentSince, byte_at, HeaderFields, Value, header, cluster_size, rounded_up, AbstractImage, Setting, guest_of, IsRefusalByFault, IsShrinkEnd, IsShrunk, given_by_shrink, given_by_shrunk, Disk, State, RefinesState, RefinesCommand, done, grow, number_is, refused, shrink, IsGiven, done_as, gave_less, refused_as, ImageError, known_in, refusal_of, Qcow2, Prepared, lacks_data_file, is_failed, is_writable, size_of, ImageInvariant, abstract_of, pending_in, refuse_if, GrowsTo, Shrinks, WritesSizeLast, refuses_to_resize, header_is, disk_size, TouchesLess, touches_less}
+use Rattle.qcow2_session.proofs.Common.{IfSome, option_or, cases_lt, cases_eq, cond-true, cond-false, eq-eqb, ne_eqb, pow_pos, BackingView, StorageView, EachMomentSince, byte_at, HeaderFields, Value, header, cluster_size, rounded_up, AbstractImage, Setting, guest_of, IsRefusalByFault, IsShrinkEnd, IsShrunk, given_by_shrink, given_by_shrunk, Disk, State, RefinesState, RefinesCommand, done, grow, number_is, refused, shrink, IsGiven, done_as, gave_less, refused_as, ImageError, known_in, refusal_of, Qcow2, Prepared, lacks_data_file, is_failed, is_writable, size_of, ImageInvariant, abstract_of, pending_in, refuse_if, GrowsTo, Shrinks, WritesSizeLast, refuses_to_resize, header_is, disk_size, TouchesLess, touches_less, Mappings}
 use Rattle.image_access.specs.declared.storage.PreallocateMode.{PreallocateMode}
 use Rattle.qcow2_disk.specs.GrownCovers.{GrownCovers, IsRightlyGrown}
 use Rattle.qcow2_alloc.specs.declared.error.ImageError.TheVariants as I
@@ -70,7 +70,7 @@ module _ {S F : Type 0} (view : S → StorageView) (backing : F → BackingView)
   IsEarly r = IfSome (refuses_to_resize old) (λ e. (r ≡ Err e) × (new ≡ old))
 
   abbrev IsLast : Type 0
-  IsLast = (out : List (Option Prepared)) → (abstract_of view backing old out).is_sound → WritesSizeLast view backing old new
+  IsLast = (out : Mappings) → (abstract_of view backing old out).is_sound → WritesSizeLast view backing old new
 
   -- the mappings of guest clusters if a growth succeeds
   abbrev IsFilledBehind : PreallocateMode → Type 0
@@ -82,7 +82,7 @@ module _ {S F : Type 0} (view : S → StorageView) (backing : F → BackingView)
       let no : refusal A e ≡ Ok answer = (nothing (not_early A (new ≡ old) (is_failed old) (lacks_data_file old) (not (is_writable old)) e early fault)).0 in
       cc
 
-  module _ (out : List (Option Prepared)) where
+  module _ (out : Mappings) where
     abbrev before : AbstractImage
     before = abstract_of view backing old out
 

@@ -1,9 +1,9 @@
 -- The parts of a write respect the prepared mappings: no byte is written under an L2 table that another mapping pins, unless it is written in place.
 use Rattle.std.proofs.Common.{◌≡◌, ◌+◌, ◌-◌, ◌*◌, ◌/◌, ◌%◌, ◌<◌, ◌≤◌, ◌∙◌, inl, inr, ℕ, List, Option, take, drop, length, refl, sym, ap, subst, arith, Ok}
-use Rattle.qcow2_session.proofs.Common.{cases_lt, common_steps, BackingView, StorageView, cluster_size, rest_of_table, known_in, l1_index_of, IsTaken, Qcow2, Prepared, RespectsFirst, IsRespectedAt, Writes}
+use Rattle.qcow2_session.proofs.Common.{cases_lt, common_steps, BackingView, StorageView, cluster_size, rest_of_table, known_in, l1_index_of, IsTaken, Qcow2, Prepared, RespectsFirst, IsRespectedAt, Writes, Mappings}
 use Rattle.qcow2_session.proofs.Lemmas.{same_index, writes_none}
 
-module _ {S F : Type 0} (view : S → StorageView) (backing : F → BackingView) (old : Qcow2 S F) (out : List (Option Prepared)) (offset : ℕ) (bytes : List ℕ) where
+module _ {S F : Type 0} (view : S → StorageView) (backing : F → BackingView) (old : Qcow2 S F) (out : Mappings) (offset : ℕ) (bytes : List ℕ) where
   -- one part more, after the bytes that are written
   pub heeded_more : (done count at : ℕ) (before : Qcow2 S F) → at ≡ offset + done → cluster_size before.file.header.fields ≡ cluster_size old.file.header.fields → Writes view backing old before offset (take done bytes) (Ok tt) → (done ≡ 0 → before ≡ old)
       → 0 < length (drop done bytes) → RespectsFirst view backing before out at (length (drop done bytes)) (Ok count) → ((i : ℕ) → i < done → IsRespectedAt view backing old out offset bytes i) → (i : ℕ) → i < done + count → IsRespectedAt view backing old out offset bytes i

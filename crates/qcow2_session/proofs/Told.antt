@@ -1,8 +1,9 @@
 -- What a run reports about its image, one command after another.
 use Rattle.std.proofs.Common.{◌≡◌, ◌∷◌, ◌++◌, ℕ, map, List, [], false, refl, sym, ap, ◌∙◌, subst, Option, Some, None, replicate, Ok, Err}
-use Rattle.qcow2_session.proofs.Common.{fun_ext, IfSome, BackingView, StorageView, Setting, Found, State, RefinesState, RefinesCommand, HasNoInvalidation, KeepsUnflushed, begun, Qcow2, Mapping, Prepared, IsSameImage, is_beside, lacks_data_file, is_writable, number_of, abstract_of, image_abstraction, free_places, command_of, reply_of, mappings_in, range_of, AreReportedAlong, IsReportedStep, KeepsItself, RunPoint, StepsAlong, abstract_at, first_point, free_slots, Command, Reply}
+use Rattle.qcow2_session.proofs.Common.{fun_ext, IfSome, BackingView, StorageView, Setting, Found, State, RefinesState, RefinesCommand, HasNoInvalidation, KeepsUnflushed, begun, Qcow2, Mapping, Prepared, IsSameImage, is_beside, lacks_data_file, is_writable, number_of, abstract_of, image_abstraction, free_places, command_of, reply_of, mappings_in, range_of, AreReportedAlong, IsReportedStep, KeepsItself, RunPoint, StepsAlong, abstract_at, first_point, free_slots, Command, Reply, in_image}
 use Rattle.qcow2_session.proofs.Meanings.{step_found, found_same, ranges_after}
 use Rattle.qcow2_session.proofs.Runs.{free_stands, none_found, none_mapped}
+use Rattle.qcow2_image.specs.declared.mapping.Place.TheVariants.{Image}
 
 -- what was answered wasn't refused early
 pub none_refused : {A E : Type 0} (X : Type 0) (o : Option E) (a : A) → IfSome o (λ e. (Ok a ≡ Err e) × X) → o ≡ None
@@ -62,7 +63,7 @@ module _ {S F : Type 0} (view : S → StorageView) (backing : F → BackingView)
   pub record IsToldSoFar (old : Qcow2 S F) (last : RunPoint S F) (commands : List Command) (replies : List Reply) : Type 0 where
     pub points : List (RunPoint S F)
     pub along : AreReportedAlong view backing (first_point old) commands replies points last
-    pub so_far : HasNoInvalidation (map command_of commands) → (x : Setting) (s : State) → RefinesState x (abstract_of view backing old []) s → StepsSoFar x (first_point old) last (begun s) commands replies points
+    pub so_far : HasNoInvalidation (map command_of commands) → (x : Setting) (s : State) → RefinesState x (abstract_of view backing old (in_image [])) s → StepsSoFar x (first_point old) last (begun s) commands replies points
 
   pub first_told : (image : Qcow2 S F) (out : List (Option Prepared)) (mappings : List (Option Mapping)) (replies : List Reply) → out ≡ free_slots → mappings ≡ replicate 256 None → replies ≡ []
       → IsToldSoFar image (record { image = image; prepared = out; found = mappings_in mappings }) [] replies
@@ -76,7 +77,7 @@ module _ {S F : Type 0} (view : S → StorageView) (backing : F → BackingView)
         so_far = λ none x s stands. record {
           end = begun s;
           steps = refl;
-          stands = free_stands (image_abstraction view backing) (free_places view backing) image 256 x s stands;
+          stands = free_stands (image_abstraction view backing) (free_places view backing Image) image 256 x s stands;
           found = λ ok k. none_found 256 k;
         };
       })))

@@ -3,7 +3,7 @@ use Rattle.qcow2_alloc.specs.declared.error.ImageError.TheVariants as I
 use Rattle.qcow2_session.specs.declared.session.Command.TheVariants as C
 use Rattle.qcow2_session.specs.declared.session.Reply.TheVariants as R
 use Rattle.std.proofs.Common.{◌≡◌, ◌≢◌, ◌+◌, ◌∙◌, inl, inr, ℕ, List, Option, Some, None, Ok, Err, Result, refl, sym, ap, subst, arith, length, replicate}
-use Rattle.qcow2_session.proofs.Common.{Global, Vec, IfSome, length-replicate, BackingView, StorageView, ImageError, IsUnderMappingIn, abstract_of, storage, behind_none, reads_none, refusal_of, taking_as, IsNotOfStorage, Qcow2, Mapping, Prepared, MayFailPreparing, refuses_to_prepare, HasNothingToDo, MayFailOnSound, MayFailWith, ReportsMisuse, first_cause, CommandMayFailAllocating, refusal_in, Writes, Command, Reply, MarksInParts, MarksBy, SlotsAfter, ReplyMatchesImage, ListsNoMore, command_of, mappings_in, write, done_as, refused_as}
+use Rattle.qcow2_session.proofs.Common.{Global, Vec, IfSome, length-replicate, BackingView, StorageView, ImageError, IsUnderMappingIn, abstract_of, storage, behind_none, reads_none, refusal_of, taking_as, IsNotOfStorage, Qcow2, Mapping, Prepared, MayFailPreparing, refuses_to_prepare, HasNothingToDo, MayFailOnSound, MayFailWith, ReportsMisuse, first_cause, CommandMayFailAllocating, refusal_in, Writes, Command, Reply, MarksInParts, MarksBy, SlotsAfter, ReplyMatchesImage, ListsNoMore, command_of, mappings_in, write, done_as, refused_as, Mappings, in_image}
 use Rattle.qcow2_session.specs.CallSteps.{AnswersCommand, WriteFails, WriteStep, WroteSoundly}
 use Rattle.qcow2_session.specs.Causes.{StopsRightly, WriteMayFailAllocating}
 use Rattle.qcow2_session.specs.Commands.{reply_of_write}
@@ -19,8 +19,8 @@ use Rattle.qcow2_session.proofs.Told.{image_itself}
 use Rattle.qcow2_session.proofs.Turns.{does_if, does_less, none_within, refuses_here}
 
 module _ {S F : Type 0} (view : S → StorageView) (backing : F → BackingView) (old new : Qcow2 S F) (slots : Slots) where
-  abbrev before : List (Option Prepared)
-  before = slots.prepared.items
+  abbrev before : Mappings
+  before = (in_image slots.prepared.items)
 
   abbrev found : ℕ → Option Mapping
   found = mappings_in slots.mappings.items
@@ -30,15 +30,15 @@ module _ {S F : Type 0} (view : S → StorageView) (backing : F → BackingView)
     pub means : command_of command ≡ write offset bytes
     pub cause : first_cause old command ≡ refuses_to_prepare old offset (length bytes)
     pub marks : (reason : Option ImageError) → MarksInParts view reason old new → MarksBy view old new command reason
-    pub misuse : (reply : Reply) → (reply ≡ R.Misuse → ⊥) → ReportsMisuse before found command reply
-    pub may : (e : ImageError) → MayFailPreparing new e → MayFailWith old new before found command e
+    pub misuse : (reply : Reply) → (reply ≡ R.Misuse → ⊥) → ReportsMisuse before.slots found command reply
+    pub may : (e : ImageError) → MayFailPreparing new e → MayFailWith old new before.slots found command e
     pub taking : (e : ImageError) → WriteMayFailAllocating view old new before offset (length bytes) e → CommandMayFailAllocating view old new before command e
     pub idle : HasNothingToDo view backing old new before command → length bytes ≡ 0
     pub respects : (reply : Reply) → (refusal_in reply ≡ Some I.TablePrepared → IsUnderMappingIn old.file.header.fields offset (offset + length bytes) before) × StopsRightly view backing old new before offset bytes reply → MayFailOnSound view backing old new before found command reply
     pub finds : (reply : Reply) → Finds slots slots command reply
-    pub after : (reply : Reply) → SlotsAfter before command reply before
-    pub freeing : ((abstract_of view backing old before).is_sound → ListsNoMore old new) → ReplyMatchesImage view backing old new before before command R.Done
-    pub told : (e : ImageError) (n : ℕ) → ReplyMatchesImage view backing old new before before command (R.WriteRefused e n)
+    pub after : (reply : Reply) → SlotsAfter before.slots command reply before.slots
+    pub freeing : ((abstract_of view backing old before).is_sound → ListsNoMore old new) → ReplyMatchesImage view backing old new before.slots before.slots command R.Done
+    pub told : (e : ImageError) (n : ℕ) → ReplyMatchesImage view backing old new before.slots before.slots command (R.WriteRefused e n)
 
   pub given_bytes : (offset : ℕ) (bytes : Vec ℕ Global) → WritesGiven (C.Write offset bytes) offset bytes.items
   given_bytes offset bytes = record { means = refl; cause = refl; marks = λ _ m. m; misuse = λ _ never. (λ is. absurd (never is), λ is. absurd is); may = λ _ is. is; taking = λ _ is. is; idle = λ is. is; respects = λ _ h. h; finds = λ _ _. refl; after = λ _. refl; freeing = λ same. same; told = λ _ _. tt }
@@ -47,7 +47,7 @@ module _ {S F : Type 0} (view : S → StorageView) (backing : F → BackingView)
   given_byte offset n byte = let long : length (replicate n byte) ≡ n = length-replicate n byte in record { means = refl; cause = ap (refuses_to_prepare old offset) (sym long); marks = λ _ m. m; misuse = λ _ never. (λ is. absurd (never is), λ is. absurd is); may = λ _ is. is; taking = λ e. subst (λ k. WriteMayFailAllocating view old new before offset k e) long; idle = λ is. long ∙ is; respects = λ reply h. (subst (λ k. refusal_in reply ≡ Some I.TablePrepared → IsUnderMappingIn old.file.header.fields offset (offset + k) before) long h.0, h.1); finds = λ _ _. refl; after = λ _. refl; freeing = λ same. same; told = λ _ _. tt }
 
   module _ {command : Command} {offset : ℕ} {bytes : List ℕ} (is : WritesGiven command offset bytes) where
-    writes_done : WriteStep view backing old new (Ok tt) → WriteFails view backing old new (Ok tt) offset (length bytes) → ((out : List (Option Prepared)) → (abstract_of view backing old out).is_sound → WroteSoundly view backing old new (Ok tt) offset bytes out)
+    writes_done : WriteStep view backing old new (Ok tt) → WriteFails view backing old new (Ok tt) offset (length bytes) → ((out : Mappings) → (abstract_of view backing old out).is_sound → WroteSoundly view backing old new (Ok tt) offset bytes out)
         → Writes view backing old new offset bytes (Ok tt) → AnswersCommand view backing old new slots slots command R.Done
     writes_done step fails sound sees = record {
       keeps = image_itself step.image;
@@ -67,7 +67,7 @@ module _ {S F : Type 0} (view : S → StorageView) (backing : F → BackingView)
     }
 
     writes_stopped : (e : ImageError) (k : ℕ) → WriteStep view backing old new (Err (e, k)) → WriteFails view backing old new (Err (e, k)) offset (length bytes)
-        → ((out : List (Option Prepared)) → (abstract_of view backing old out).is_sound → WroteSoundly view backing old new (Err (e, k)) offset bytes out) → Writes view backing old new offset bytes (Err (e, k)) → AnswersCommand view backing old new slots slots command (R.WriteRefused e k)
+        → ((out : Mappings) → (abstract_of view backing old out).is_sound → WroteSoundly view backing old new (Err (e, k)) offset bytes out) → Writes view backing old new offset bytes (Err (e, k)) → AnswersCommand view backing old new slots slots command (R.WriteRefused e k)
     writes_stopped e k step fails sound sees = record {
       keeps = image_itself step.image;
       size = λ _. step.image.size;
@@ -88,10 +88,10 @@ module _ {S F : Type 0} (view : S → StorageView) (backing : F → BackingView)
     }
 
     pub writes_answered : (r : Result (Unit {0}) (ImageError × ℕ)) (reply : Reply) → reply ≡ reply_of_write r → WriteStep view backing old new r → WriteFails view backing old new r offset (length bytes)
-        → ((out : List (Option Prepared)) → (abstract_of view backing old out).is_sound → WroteSoundly view backing old new r offset bytes out) → Writes view backing old new offset bytes r → AnswersCommand view backing old new slots slots command reply
+        → ((out : Mappings) → (abstract_of view backing old out).is_sound → WroteSoundly view backing old new r offset bytes out) → Writes view backing old new offset bytes r → AnswersCommand view backing old new slots slots command reply
     writes_answered r reply it step fails sound sees = subst (λ q. AnswersCommand view backing old new slots slots command q) (sym it) (by r step fails sound sees)
       where
-        by : (r : Result (Unit {0}) (ImageError × ℕ)) → WriteStep view backing old new r → WriteFails view backing old new r offset (length bytes) → ((out : List (Option Prepared)) → (abstract_of view backing old out).is_sound → WroteSoundly view backing old new r offset bytes out)
+        by : (r : Result (Unit {0}) (ImageError × ℕ)) → WriteStep view backing old new r → WriteFails view backing old new r offset (length bytes) → ((out : Mappings) → (abstract_of view backing old out).is_sound → WroteSoundly view backing old new r offset bytes out)
             → Writes view backing old new offset bytes r → AnswersCommand view backing old new slots slots command (reply_of_write r)
         by (Ok done) step fails sound sees = writes_done step fails sound sees
         by (Err (e, k)) step fails sound sees = writes_stopped e k step fails sound sees
@@ -117,5 +117,5 @@ module _ {S F : Type 0} (view : S → StorageView) (backing : F → BackingView)
   unwritten_sees offset bytes = λ out. let v = abstract_of view backing image out in refuses_here (refusal_of e) (not_storage e never) (does_if (λ same. may_write_none (refusal_of e) _ _ offset bytes same) (does_less (none_within v _) (does_nothing v)))
 
   -- on a sound image, only for want of memory
-  pub unwritten_soundly : (offset : ℕ) (bytes : List ℕ) (out : List (Option Prepared)) → (refuses_to_prepare image offset (length bytes) ≡ None → e ≡ I.Memory) → WroteSoundly view backing image image (Err (e, 0)) offset bytes out
+  pub unwritten_soundly : (offset : ℕ) (bytes : List ℕ) (out : Mappings) → (refuses_to_prepare image offset (length bytes) ≡ None → e ≡ I.Memory) → WroteSoundly view backing image image (Err (e, 0)) offset bytes out
   unwritten_soundly offset bytes out lacks = record { may_fail = λ none. inl (inl (inl (inr (lacks none)))); taken = λ none is. absurd (let no : I.Memory ≡ I.TablePrepared = sym (lacks none) ∙ is in cc); taken_part = λ none. (λ is. absurd (let no : I.Memory ≡ I.TablePrepared = sym (lacks none) ∙ is in cc), λ i lt. absurd (omega (arith, lt))); limit = λ none is. absurd (let no : I.Memory ≡ I.Limit = sym (lacks none) ∙ is in cc); ends = λ some. absurd (omega (arith, some)); freeing = tt; copied = λ _. tt }

@@ -15,7 +15,7 @@ use Rattle.qcow2_image.specs.Faults.{CountsImageFaults, NoFewerFaults, SameFault
 use Rattle.qcow2_image.specs.Image.{IsSameImage, KeepsWholeHeader, is_failed, number_of, size_of}
 use Rattle.qcow2_image.specs.L1Entries.{NeedsOverflowingL1Entry}
 use Rattle.qcow2_image.specs.Limits.{IfLimit, IsLimited}
-use Rattle.qcow2_image.specs.ImageInvariant.{abstract_of}
+use Rattle.qcow2_image.specs.ImageInvariant.{abstract_of, Mappings, in_image}
 use Rattle.qcow2_image.specs.ListedClusters.{ListsNoMore}
 use Rattle.qcow2_image.specs.MayFail.{CopiesCompressed, MayFailReadingRange, MayFailAllocating}
 use Rattle.qcow2_image.specs.Preallocation.{IsUnderMappingIn}
@@ -50,7 +50,7 @@ module _ {S F : Type 0} (view : S → StorageView) (backing : F → BackingView)
     pub finds : Finds was is command reply
     pub after : SlotsAfter was.prepared.items command reply is.prepared.items
     pub reports : ReplyMatchesImage view backing old new was.prepared.items is.prepared.items command reply
-    pub causes : RefusalJustified view backing old new was.prepared.items (mappings_in was.mappings.items) command reply
+    pub causes : RefusalJustified view backing old new (in_image was.prepared.items) (mappings_in was.mappings.items) command reply
     pub quiet : LeavesQuietly view old was.prepared.items new is.prepared.items
 
   -- Dropping a prepared mapping counts no fault and marks nothing.
@@ -62,13 +62,13 @@ module _ {S F : Type 0} (view : S → StorageView) (backing : F → BackingView)
     pub quiet : ReadsQuietly view old new
 
   -- The first bytes of a range are to be written to a sound image. A refusal has its cause. It is refused 9, and succeeds, only as the prepared mappings allow, and refused 13 only if a limit was passed.
-  pub record WritesSoundly (offset n : ℕ) (out : List (Option Prepared)) (result : Result ℕ ImageError) : Type 0 where
+  pub record WritesSoundly (offset n : ℕ) (out : Mappings) (result : Result ℕ ImageError) : Type 0 where
     pub may_fail : IfErr result (MayFailAllocating (HasPinnedMapping out) (IsUnderMapping old.file.header.fields offset out) (CopiesCompressed offset n true new.file.header.fields (known_in view new.file)) (NeedsOverflowingL1Entry old offset))
     pub taken : RespectsFirst view backing old out offset n result
     pub limit : IfLimit result (IsLimited view backing [] (offset + n) old out)
 
   -- The first bytes of a range were written to a sound image. Part of the bytes ends at a cluster boundary. The list of clusters to free is no longer than before, and the clusters that were written are data of their own.
-  pub record WritesPartSoundly (offset : ℕ) (bytes : List ℕ) (out : List (Option Prepared)) (result : Result ℕ ImageError) : Type 0 where
+  pub record WritesPartSoundly (offset : ℕ) (bytes : List ℕ) (out : Mappings) (result : Result ℕ ImageError) : Type 0 where
     pub refused : refuses_to_prepare old offset (length bytes) ≡ None → WritesSoundly offset (length bytes) out result
     pub freeing : OnOk result (ListsNoMore old new)
     pub ends : IfOk result (λ n. n < length bytes → EndsCluster old (offset + n))
@@ -92,7 +92,7 @@ module _ {S F : Type 0} (view : S → StorageView) (backing : F → BackingView)
     pub record RefusesToRead (offset n : ℕ) : Type 0 where
       pub early : IfSome (refuses_to_read old offset n) (λ e. (result ≡ Err e) × (new ≡ old))
       pub late : refuses_to_read old offset n ≡ None → IfErr result (λ e. MayFailReadingFrom new offset (offset + n) e × (0 < n))
-      pub may_fail : refuses_to_read old offset n ≡ None → (out : List (Option Prepared)) → (abstract_of view backing old out).is_sound
+      pub may_fail : refuses_to_read old offset n ≡ None → (out : Mappings) → (abstract_of view backing old out).is_sound
           → IfErr result (MayFailReadingRange out offset (offset + n) old.file.header.fields (known_in view old.file))
       pub beyond : IfErr result (IsRightlyBeyond old offset n)
       pub cause : IfErr result IsOfReading
@@ -117,7 +117,7 @@ module _ {S F : Type 0} (view : S → StorageView) (backing : F → BackingView)
       pub cause : IfErr result (λ (e, k). IsOfWriting e)
 
     -- A write to a sound image. Each refusal has its cause; a refused write ends at a cluster boundary, unless it wrote nothing. If it is done, the list of clusters to free is no longer than before, and the clusters that were written are data of their own.
-    pub record WroteSoundly (offset : ℕ) (bytes : List ℕ) (out : List (Option Prepared)) : Type 0 where
+    pub record WroteSoundly (offset : ℕ) (bytes : List ℕ) (out : Mappings) : Type 0 where
       pub may_fail : refuses_to_prepare old offset (length bytes) ≡ None → IfErr result (λ (e, n). MayFailAllocating (HasPinnedMapping out) (IsUnderMappingIn old.file.header.fields offset (offset + length bytes) out)
           (CopiesCompressed offset (length bytes) true new.file.header.fields (known_in view new.file)) (NeedsOverflowingToWrite view backing old offset bytes n) e)
       pub taken : refuses_to_prepare old offset (length bytes) ≡ None → IfErr result (λ (e, n). e ≡ TablePrepared → IsUnderMappingIn old.file.header.fields offset (offset + length bytes) out)
@@ -188,6 +188,6 @@ module _ {S F : Type 0} (view : S → StorageView) (backing : F → BackingView)
     pub unequal : (view_of raw).is_honest → length (view_of raw).contents ≢ size_of old → IsRefusedUnequal (refuses_to_read old 0 0) (view_of raw).faults (view_of raw').faults result × (new ≡ old)
     pub option : (view_of raw).is_honest → IfErr result (λ e. e ≡ InvalidOption → length (view_of raw).contents ≢ size_of old)
     pub cause : IfErr result IsOfImporting
-    pub late : refuses_to_read old 0 0 ≡ None → (out : List (Option Prepared)) → (abstract_of view backing old out).is_sound → IfErr result (λ e. (e ≡ InvalidOption) ⊎ IsReasonNotToWrite view backing old new 0 (size_of old) out e)
-    pub may_fail : refuses_to_read old 0 0 ≡ None → (out : List (Option Prepared)) → (abstract_of view backing old out).is_sound → IfErr result (λ e. (e ≡ InvalidOption) ⊎ MayFailImporting view 0 (size_of old) new out e)
+    pub late : refuses_to_read old 0 0 ≡ None → (out : Mappings) → (abstract_of view backing old out).is_sound → IfErr result (λ e. (e ≡ InvalidOption) ⊎ IsReasonNotToWrite view backing old new 0 (size_of old) out e)
+    pub may_fail : refuses_to_read old 0 0 ≡ None → (out : Mappings) → (abstract_of view backing old out).is_sound → IfErr result (λ e. (e ≡ InvalidOption) ⊎ MayFailImporting view 0 (size_of old) new out e)
     pub differs : (view_of raw).is_honest → IfErr result (DiffersWhereKept view backing old 0 (view_of raw).contents)

@@ -18,7 +18,7 @@ use Rattle.qcow2_image.specs.Clearing.{IsUnderMapping, from_in, refuses_clearing
 use Rattle.qcow2_image.specs.Found.{IsFoundWhole, further_by}
 use Rattle.qcow2_image.specs.HeldMappings.{IsCompressedInTables, RefusesHeld}
 use Rattle.qcow2_image.specs.Image.{is_failed, is_writable, size_of}
-use Rattle.qcow2_image.specs.ImageInvariant.{abstract_of}
+use Rattle.qcow2_image.specs.ImageInvariant.{abstract_of, Mappings}
 use Rattle.qcow2_image.specs.Invalidated.{IsOfPrepared, IsStillInUse, MayFailToInvalidate}
 use Rattle.qcow2_image.specs.L1Entries.{NeedsOverflowingL1Entry}
 use Rattle.qcow2_image.specs.LookupCauses.{MayFailFinding, MayFailPuttingAt, MayFailReadingFound, MayFailTelling}
@@ -120,7 +120,7 @@ module _ {S F : Type 0} (old new : Qcow2 S F) (before : List (Option Prepared)) 
   MayFailWith C.Leaked e = ⊥
   MayFailWith (C.WriteMapped slot at bytes) e = (p : Prepared) × (slice_get before slot ≡ Some (Some p)) × MayFailPuttingAt old new p at (length bytes.items) e
 
-module _ {S F : Type 0} (view : S → StorageView) (old new : Qcow2 S F) (before : List (Option Prepared)) where
+module _ {S F : Type 0} (view : S → StorageView) (old new : Qcow2 S F) (before : Mappings) where
   -- Why clearing a range of a sound image is refused: a fault; a limit; 20; 8, if a mapping is pinned; or 9, if one is pinned in the L2 table of the first offset.
   abbrev pub ClearingMayFail : (offset n : ℕ) → ImageError → Type 0
   ClearingMayFail offset n e = MayFailAllocating (HasPinnedMapping before) (IsUnderMapping old.file.header.fields (from_in old offset n) before) ⊥ (NeedsOverflowingL1Entry old (from_in old offset n)) e
@@ -143,7 +143,7 @@ module _ {S F : Type 0} (view : S → StorageView) (old new : Qcow2 S F) (before
   CommandMayFailAllocating (C.ResizeGrow size mode) e = MayFailGrowing before mode (size_of old) (rounded_up (cluster_size old.file.header.fields) size) old.file.header.fields (known_in view old.file) e
   CommandMayFailAllocating command e = Unit {0}
 
-module _ {S F : Type 0} (view : S → StorageView) (backing : F → BackingView) (old new : Qcow2 S F) (before : List (Option Prepared)) where
+module _ {S F : Type 0} (view : S → StorageView) (backing : F → BackingView) (old new : Qcow2 S F) (before : Mappings) where
   -- The command has nothing to do.
   abbrev pub HasNothingToDo : Command → Type 0
   HasNothingToDo (C.Read offset n) = n ≡ 0
@@ -153,7 +153,7 @@ module _ {S F : Type 0} (view : S → StorageView) (backing : F → BackingView)
   HasNothingToDo (C.ReadMapped slot at n) = n ≡ 0
   HasNothingToDo (C.PrepareDataMapping slot offset n overwrite) = n ≡ 0
   HasNothingToDo (C.WriteMapped slot at bytes) = length bytes.items ≡ 0
-  HasNothingToDo (C.CommitDataMapping slot) = (p : Prepared) × (slice_get before slot ≡ Some (Some p)) × IsNone (table_of p)
+  HasNothingToDo (C.CommitDataMapping slot) = (p : Prepared) × (slice_get before.slots slot ≡ Some (Some p)) × IsNone (table_of p)
   HasNothingToDo (C.EnsureZeroMapping offset n) = to_in old offset n ≤ from_in old offset n
   HasNothingToDo (C.DiscardToZero offset n) = to_in old offset n ≤ from_in old offset n
   HasNothingToDo (C.DiscardToAny offset n) = to_in old offset n ≤ from_in old offset n
@@ -179,7 +179,7 @@ module _ {S F : Type 0} (view : S → StorageView) (backing : F → BackingView)
   -- The mapping in a slot is existing, and the bytes are not at its host offset any more.
   pub record IsOutdatedAt (slot at n : ℕ) : Type 0 where
     pub mapping : Prepared
-    pub there : slice_get before slot ≡ Some (Some mapping)
+    pub there : slice_get before.slots slot ≡ Some (Some mapping)
     pub existing : table_of mapping ≡ None
     pub moved : ¬ IsFoundWhole view old (mapping.guest + at) (Raw mapping.place (mapping.offset + at) true) n
 
@@ -193,7 +193,7 @@ module _ {S F : Type 0} (view : S → StorageView) (backing : F → BackingView)
   MayFailLookedUp found slot at n e = (m : Mapping) × (found slot ≡ Some m) × MayFailMapped (IsCacheHeld old before) (further_by at m.kind) (IsFoundWhole view old (m.offset + at) (further_by at m.kind) n) e
 
   abbrev pub MayFailPuttingOnSound : (slot at : ℕ) → ImageError → Type 0
-  MayFailPuttingOnSound slot at e = (p : Prepared) × (slice_get before slot ≡ Some (Some p)) × MayFailPutting (IsCacheHeld old before) p at e
+  MayFailPuttingOnSound slot at e = (p : Prepared) × (slice_get before.slots slot ≡ Some (Some p)) × MayFailPutting (IsCacheHeld old before) p at e
 
   -- A write is refused 13 only if it passed a limit, and 20 only if the rest of its range, after the bytes that were written, has that cause. Each of its parts respects the prepared mappings.
   abbrev pub StopsRightly : (offset : ℕ) → List ℕ → Reply → Type 0
@@ -235,10 +235,10 @@ module _ {S F : Type 0} (view : S → StorageView) (backing : F → BackingView)
   -- The refusal of a command. A misuse is replied to as such, and nothing changes. Otherwise the first check that fails gives the reply, and nothing changes.
   -- If no check fails, the command is refused only for causes that its work may meet, and on a sound image for fewer. A command with nothing to do is not refused. On a sound image a command respects the prepared mappings.
   pub record RefusalJustified (found : ℕ → Option Mapping) (command : Command) (reply : Reply) : Type 0 where
-    pub misuse : ReportsMisuse before found command reply
+    pub misuse : ReportsMisuse before.slots found command reply
     pub still : reply ≡ R.Misuse → new ≡ old
     pub early : IfSome (first_cause old command) (λ e. ((refusal_in reply ≡ Some e) ⊎ (reply ≡ R.Misuse)) × (new ≡ old))
-    pub late : first_cause old command ≡ None → IfSome (refusal_in reply) (MayFailWith old new before found command)
+    pub late : first_cause old command ≡ None → IfSome (refusal_in reply) (MayFailWith old new before.slots found command)
     pub may_fail : first_cause old command ≡ None → (abstract_of view backing old before).is_sound → IfSome (refusal_in reply) (CommandMayFailAllocating view old new before command)
     pub idle : first_cause old command ≡ None → HasNothingToDo command → refusal_in reply ≡ None
     pub respects : first_cause old command ≡ None → (abstract_of view backing old before).is_sound → MayFailOnSound found command reply

@@ -21,7 +21,7 @@ use Rattle.qcow2_image.specs.Limits.{IsLimited}
 use Rattle.qcow2_image.specs.MayFail.{HasCompressedIn}
 use Rattle.qcow2_image.specs.Preallocation.{IsUnderMappingIn}
 use Rattle.qcow2_image.specs.Refusals.{IsFaultOrLimit, MayFail}
-use Rattle.qcow2_image.specs.ImageInvariant.{abstract_of}
+use Rattle.qcow2_image.specs.ImageInvariant.{abstract_of, Mappings}
 use Rattle.qcow2_session.specs.Sessions.{HasWritten, IsOfWriting, cluster_size_of}
 
 -- The bytes are those of the disk, up to its size.
@@ -43,7 +43,7 @@ IsOfImporting e = IsOfWriting e ⊎ (e ≡ InvalidOption)
 
 -- Why importing a range into a sound image is refused: a fault; a limit; 1, if the image was opened for reading; 20; 7, if some guest cluster that the range touches is compressed at the moment of the refusal;
 -- or 8 or 9, if a mapping is pinned.
-abbrev pub MayFailImporting : {S F : Type 0} → (S → StorageView) → (from to : ℕ) → Qcow2 S F → List (Option Prepared) → ImageError → Type 0
+abbrev pub MayFailImporting : {S F : Type 0} → (S → StorageView) → (from to : ℕ) → Qcow2 S F → Mappings → ImageError → Type 0
 MayFailImporting view from to new out e =
     IsFaultOrLimit e
     ⊎ (((e ≡ ReadOnly) × (is_writable new ≡ false)) ⊎ ((e ≡ Overflow) ⊎ (((e ≡ Compressed) × HasCompressedIn from to new.file.header.fields (known_in view new.file)) ⊎ (((e ≡ InUse) ⊎ (e ≡ TablePrepared)) × HasPinnedMapping out))))
@@ -64,22 +64,22 @@ HasSome size bytes e old new = (n : ℕ) × ((n % size ≡ 0) ⊎ (n ≡ length 
 module _ {S F : Type 0} (view : S → StorageView) (backing : F → BackingView) (old new : Qcow2 S F) where
   -- The disk has all bytes of a raw disk, nothing else changed, and everything is on the storage; or the import was refused half-way.
   abbrev pub Imports : List ℕ → Result ℕ ImageError → Type 0
-  Imports bytes (Ok n) = (out : List (Option Prepared)) → let v = abstract_of view backing old out in let w = abstract_of view backing new out in
+  Imports bytes (Ok n) = (out : Mappings) → let v = abstract_of view backing old out in let w = abstract_of view backing new out in
       AnsweredEffect v w (given_of 0 bytes ∷ []) [] ((n ≡ length bytes) × IsRawOf (guest_of w).disk bytes × HasWritten 0 bytes (guest_of v) (guest_of w) × (w.known ≡ stored_bytes w))
-  Imports bytes (Err e) = (out : List (Option Prepared)) → let v = abstract_of view backing old out in let w = abstract_of view backing new out in
+  Imports bytes (Err e) = (out : Mappings) → let v = abstract_of view backing old out in let w = abstract_of view backing new out in
       RefusedConversion v w (given_of 0 bytes ∷ []) (refusal_of e) (HasSome (cluster_size_of old) bytes (refusal_of e) (guest_of v) (guest_of w))
 
   -- The disk has all bytes of a raw disk, before the flush; or the import was refused half-way.
   abbrev pub ImportsAll : List ℕ → Result (Unit {0}) ImageError → Type 0
-  ImportsAll bytes (Ok _) = (out : List (Option Prepared)) → let v = abstract_of view backing old out in let w = abstract_of view backing new out in
+  ImportsAll bytes (Ok _) = (out : Mappings) → let v = abstract_of view backing old out in let w = abstract_of view backing new out in
       AnsweredEffect v w (given_of 0 bytes ∷ []) [] (HasWritten 0 bytes (guest_of v) (guest_of w))
   ImportsAll bytes (Err e) = Imports bytes (Err e)
 
   -- A range of the disk has the bytes of a raw disk. If it lies within a cluster, a refusal leaves it unchanged.
   abbrev pub ImportsAt : ℕ → List ℕ → Result (Unit {0}) ImageError → Type 0
-  ImportsAt at bytes (Ok _) = (out : List (Option Prepared)) → let v = abstract_of view backing old out in let w = abstract_of view backing new out in
+  ImportsAt at bytes (Ok _) = (out : Mappings) → let v = abstract_of view backing old out in let w = abstract_of view backing new out in
       AnsweredEffect v w (given_of at bytes ∷ []) [] (HasWritten at bytes (guest_of v) (guest_of w))
-  ImportsAt at bytes (Err e) = (out : List (Option Prepared)) → let v = abstract_of view backing old out in let w = abstract_of view backing new out in
+  ImportsAt at bytes (Err e) = (out : Mappings) → let v = abstract_of view backing old out in let w = abstract_of view backing new out in
       RefusedConversion v w (given_of at bytes ∷ []) (refusal_of e) (at % cluster_size_of old ≡ 0 → length bytes ≤ cluster_size_of old → MayWrite (refusal_of e) (guest_of v) at bytes 0 (guest_of w))
 
   -- Whatever the raw disk is, the disk gets the bytes that were read, as many as its size.
@@ -95,14 +95,14 @@ module _ {S F : Type 0} (view : S → StorageView) (backing : F → BackingView)
   ImportsAnyAt at n result = (bytes : List ℕ) × (length bytes ≡ n) × ImportsAt at bytes result
 
   -- Why a range that may be read is not written: a cause that comes during the work, or a limit; or the image was opened for reading; or a mapping is pinned in an L2 table of the range.
-  abbrev pub IsReasonNotToWrite : (from to : ℕ) → List (Option Prepared) → ImageError → Type 0
+  abbrev pub IsReasonNotToWrite : (from to : ℕ) → Mappings → ImageError → Type 0
   IsReasonNotToWrite from to out e =
       (MayFail e × (e ≡ Limit → (given : List GivenBytes) × IsLimited view backing given to old out)) ⊎ (((e ≡ ReadOnly) × (is_writable old ≡ false)) ⊎ ((e ≡ TablePrepared) × IsUnderMappingIn old.file.header.fields from to out))
 
   -- The guest sees what it saw before.
   abbrev pub IsUnchanged : {A : Type 0} → Result A ImageError → Type 0
-  IsUnchanged (Ok a) = (out : List (Option Prepared)) → let v = abstract_of view backing old out in let w = abstract_of view backing new out in AnsweredEffect v w [] [] (IsSame v w)
-  IsUnchanged (Err e) = (out : List (Option Prepared)) → let v = abstract_of view backing old out in let w = abstract_of view backing new out in RefusedConversion v w [] (refusal_of e) (IsSame v w)
+  IsUnchanged (Ok a) = (out : Mappings) → let v = abstract_of view backing old out in let w = abstract_of view backing new out in AnsweredEffect v w [] [] (IsSame v w)
+  IsUnchanged (Err e) = (out : Mappings) → let v = abstract_of view backing old out in let w = abstract_of view backing new out in RefusedConversion v w [] (refusal_of e) (IsSame v w)
 
 -- A raw disk of this size has the bytes of the disk up to `at`, and zeros after them.
 pub record IsFilledUpTo (d : Disk) (size at : ℕ) (bytes : List ℕ) : Type 0 where
@@ -113,13 +113,13 @@ pub record IsFilledUpTo (d : Disk) (size at : ℕ) (bytes : List ℕ) : Type 0 w
 module _ {S F : Type 0} (view : S → StorageView) (backing : F → BackingView) (old : Qcow2 S F) where
   -- A raw disk is filled further.
   abbrev pub Fills : ℕ → ℕ → List ℕ → List ℕ → Type 0
-  Fills from to bytes bytes' = (out : List (Option Prepared)) → let v = abstract_of view backing old out in
+  Fills from to bytes bytes' = (out : Mappings) → let v = abstract_of view backing old out in
       v.is_sound → (size : ℕ) → to ≤ size → IsFilledUpTo (guest_of v).disk size from bytes → IsFilledUpTo (guest_of v).disk size to bytes'
 
   -- On a sound image, bytes are refused 1 or 9 only if the disk does not have them there already.
   abbrev pub DiffersWhereKept : (at : ℕ) → List ℕ → ImageError → Type 0
-  DiffersWhereKept at bytes e = (out : List (Option Prepared)) → let v = abstract_of view backing old out in v.is_sound → IsKeptFromWriting e → ¬ Shows (guest_of v).disk at bytes
+  DiffersWhereKept at bytes e = (out : Mappings) → let v = abstract_of view backing old out in v.is_sound → IsKeptFromWriting e → ¬ Shows (guest_of v).disk at bytes
 
   -- A raw disk has all bytes of the disk.
   abbrev pub Exports : List ℕ → ℕ → Type 0
-  Exports bytes n = (out : List (Option Prepared)) → let v = abstract_of view backing old out in v.is_sound → (n ≡ length bytes) × IsRawOf (guest_of v).disk bytes
+  Exports bytes n = (out : Mappings) → let v = abstract_of view backing old out in v.is_sound → (n ≡ length bytes) × IsRawOf (guest_of v).disk bytes

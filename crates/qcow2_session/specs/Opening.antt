@@ -16,7 +16,7 @@ use Rattle.qcow2_image.specs.declared.image.Missing.TheVariants as M
 use Rattle.qcow2_image.specs.declared.image.Qcow2.{Qcow2}
 use Rattle.qcow2_image.specs.Image.{is_failed, is_writable, number_of, storage_of_image}
 use Rattle.qcow2_image.specs.Opened.{IsKeptSince, IsOpenedFrom, LeavesStorage, NeedsMissing}
-use Rattle.qcow2_image.specs.ImageInvariant.{IsHonestBacking, abstract_of, image_abstraction}
+use Rattle.qcow2_image.specs.ImageInvariant.{IsHonestBacking, abstract_of, image_abstraction, in_image}
 use Rattle.qcow2_image.specs.Readable.{IsJustifiedRefusal, OpensRightly}
 use Rattle.qcow2_image.specs.Unwritten.{ContentsStayThroughout}
 use Rattle.qcow2_session.specs.Commands.{command_of, reply_of}
@@ -87,7 +87,7 @@ module _ {S F : Type 0} (view : S → StorageView) (backing : F → BackingView)
     pub behind : NamesTablesBehind opened.file.header.fields → LiesBehindHeader opened
     pub header_cluster : HasNoInvalidation (map command_of commands) → PreservesHeaderCluster view opened image
     pub is : before.is_honest → IsConsistent (byte_at before.contents) → IsHonestBacking view backing below → IsOpenedFrom view backing (byte_at before.contents) opened
-    pub begins : before.is_honest → IsConsistent (byte_at before.contents) → IsHonestBacking view backing below → let v = abstract_of view backing opened [] in RefinesState v.setting v (started v)
+    pub begins : before.is_honest → IsConsistent (byte_at before.contents) → IsHonestBacking view backing below → let v = abstract_of view backing opened (in_image []) in RefinesState v.setting v (started v)
 
   -- If the image is opened, it is as `IsToldOfOpened` says. If not, it is refused as every opening for writing with these missing files, for a reason in the contents, which stay the same unless the storage failed.
   abbrev pub ReportsOfOpened : ℕ → List Command → Result (Qcow2 S F × Vec Reply Global) (S × ImageError) → Type 0

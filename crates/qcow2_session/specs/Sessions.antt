@@ -28,7 +28,7 @@ use Rattle.qcow2_image.specs.L1Entries.{NeedsOverflowingL1Entry}
 use Rattle.qcow2_image.specs.Prepared.{length_of, offset_of}
 use Rattle.qcow2_image.specs.Preparing.{IsTaken}
 use Rattle.qcow2_image.specs.Refusals.{passes, MayFail, MayFailToRead}
-use Rattle.qcow2_image.specs.ImageInvariant.{abstract_of, image_abstraction}
+use Rattle.qcow2_image.specs.ImageInvariant.{abstract_of, image_abstraction, Mappings, in_image}
 use Rattle.qcow2_session.specs.Commands.{command_of, reply_of}
 use Rattle.qcow2_session.specs.declared.session.Command.{Command}
 use Rattle.qcow2_session.specs.declared.session.Command.TheVariants as C
@@ -102,7 +102,7 @@ module _ {S F : Type 0} (view : S → StorageView) (backing : F → BackingView)
   -- The bytes are written. If the write is refused, the first ones are; after a failed allocation, any others may be too.
   abbrev pub Writes : ℕ → List ℕ → Result (Unit {0}) (ImageError × ℕ) → Type 0
   Writes offset bytes (Ok done) = AnswersCall view backing old new (given_of offset bytes ∷ []) (λ _. HasWritten offset bytes) (Ok done)
-  Writes offset bytes (Err r) = (out : List (Option Prepared)) → let v = abstract_of view backing old out in let w = abstract_of view backing new out in RefusedEffect v w (given_of offset bytes ∷ []) [] (refusal_of r.0)
+  Writes offset bytes (Err r) = (out : Mappings) → let v = abstract_of view backing old out in let w = abstract_of view backing new out in RefusedEffect v w (given_of offset bytes ∷ []) [] (refusal_of r.0)
       (MayWrite (refusal_of r.0) (guest_of v) offset bytes r.1 (guest_of w))
 
   -- The first n bytes were read.
@@ -128,13 +128,13 @@ module _ {S F : Type 0} (view : S → StorageView) (backing : F → BackingView)
   NeedsOverflowingToWrite = StopsFor (λ at n before. NeedsOverflowingL1Entry before at)
 
   -- Why a write is refused 9: a mapping is pinned in the L2 table of the rest, which cannot all be written in place.
-  abbrev pub IsTakenToWrite : List (Option Prepared) → (offset : ℕ) → List ℕ → (done : ℕ) → Type 0
+  abbrev pub IsTakenToWrite : Mappings → (offset : ℕ) → List ℕ → (done : ℕ) → Type 0
   IsTakenToWrite out = StopsFor (λ at n before. IsTaken before.file.header.fields (known_in view before.file) at n out)
 
   -- Byte i of a write was written by a part that began at it or before it, in the same L2 table. At some image `before` the part, exactly the bytes before the part are written.
   -- For the first part, `before` is the image at the start of the write.
   -- No mapping pinned that L2 table then, unless all of the rest could be written in place.
-  pub record IsRespectedAt (out : List (Option Prepared)) (offset : ℕ) (bytes : List ℕ) (i : ℕ) : Type 0 where
+  pub record IsRespectedAt (out : Mappings) (offset : ℕ) (bytes : List ℕ) (i : ℕ) : Type 0 where
     pub from : ℕ
     pub low : from ≤ i
     pub same_table : l1_index_of old.file.header.fields (offset + i) ≡ l1_index_of old.file.header.fields (offset + from)
@@ -144,24 +144,24 @@ module _ {S F : Type 0} (view : S → StorageView) (backing : F → BackingView)
     pub untaken : ¬ IsTaken before.file.header.fields (known_in view before.file) (offset + from) (length bytes - from) out
 
   -- Every byte that is reported as written was written in this way. A write is refused 9 only if a pinned mapping is in the way of the rest.
-  abbrev pub RespectsMappings : List (Option Prepared) → (offset : ℕ) → List ℕ → Result (Unit {0}) (ImageError × ℕ) → Type 0
+  abbrev pub RespectsMappings : Mappings → (offset : ℕ) → List ℕ → Result (Unit {0}) (ImageError × ℕ) → Type 0
   RespectsMappings out offset bytes (Ok done) = (i : ℕ) → i < length bytes → IsRespectedAt out offset bytes i
   RespectsMappings out offset bytes (Err r) = (r.0 ≡ TablePrepared → IsTakenToWrite out offset bytes r.1) × ((i : ℕ) → i < r.1 → IsRespectedAt out offset bytes i)
 
   -- The first part of a write lies in one L2 table, and respects the pinned mappings.
-  abbrev pub RespectsFirst : List (Option Prepared) → (offset n : ℕ) → Result ℕ ImageError → Type 0
+  abbrev pub RespectsFirst : Mappings → (offset n : ℕ) → Result ℕ ImageError → Type 0
   RespectsFirst out offset n (Ok count) = 0 < n → (count ≤ rest_of_table old.file.header.fields offset) × (¬ IsTaken old.file.header.fields (known_in view old.file) offset n out)
   RespectsFirst out offset n (Err e) = e ≡ TablePrepared → (0 < n) × IsTaken old.file.header.fields (known_in view old.file) offset n out
 
 module _ {S F : Type 0} (view : S → StorageView) (backing : F → BackingView) (old new : Qcow2 S F) where
   -- One command is one step of every run that agrees with the image and its mappings.
   abbrev pub CommandSteps : Slots → Slots → Command → Reply → Type 0
-  CommandSteps slots slots' command reply = (x : Setting) (s : State) → let v = abstract_of view backing old slots.prepared.items in let w = abstract_of view backing new slots'.prepared.items in
+  CommandSteps slots slots' command reply = (x : Setting) (s : State) → let v = abstract_of view backing old (in_image slots.prepared.items) in let w = abstract_of view backing new (in_image slots'.prepared.items) in
       RefinesState x v s → HasFound s slots → RefinesCommand x v w s (command_of command) (reply_of reply)
 
   -- Of the prepared mappings only these are left.
   abbrev pub ReleasesMappings : List (Option Prepared) → List (Option Prepared) → Type 0
-  ReleasesMappings out left = let v = abstract_of view backing old out in let w = abstract_of view backing new left in AnsweredEffect v w [] [] ((guest_of w).disk ≡ (guest_of v).disk)
+  ReleasesMappings out left = let v = abstract_of view backing old (in_image out) in let w = abstract_of view backing new (in_image left) in AnsweredEffect v w [] [] ((guest_of w).disk ≡ (guest_of v).disk)
 
   -- There was no memory for the replies or the slots, and no command ran.
   abbrev pub IsUntouched : List Reply → Type 0
@@ -170,15 +170,15 @@ module _ {S F : Type 0} (view : S → StorageView) (backing : F → BackingView)
   -- Without the command `InvalidateCache`, the replies continue every run that agrees with the image, and then all mappings are dropped.
   abbrev pub RunsThrough : List Command → List Reply → Type 0
   RunsThrough commands replies = HasNoInvalidation (map command_of commands) → (x : Setting) (s : State) →
-      RefinesState x (abstract_of view backing old []) s → IsUntouched replies ⊎ RefinesWholeRun (image_abstraction view backing) x old new (begun s) (map command_of commands) (map reply_of replies)
+      RefinesState x (abstract_of view backing old (in_image [])) s → IsUntouched replies ⊎ RefinesWholeRun (image_abstraction view backing) x old new (begun s) (map command_of commands) (map reply_of replies)
 
   -- On an image that was just opened, the lookups at the start of a run without the command `InvalidateCache` find what is in the bytes of its file.
   abbrev pub LookupsFindContents : List Command → List Reply → Type 0
-  LookupsFindContents commands replies = HasNoInvalidation (map command_of commands) → IsOpened (abstract_of view backing old []) → LooksUp (contents_in view old.file) (is_some old.backing) (map command_of commands) (map reply_of replies)
+  LookupsFindContents commands replies = HasNoInvalidation (map command_of commands) → IsOpened (abstract_of view backing old (in_image [])) → LooksUp (contents_in view old.file) (is_some old.backing) (map command_of commands) (map reply_of replies)
 
   -- On an image that was just opened, the replies are a run of its disk, without the command `InvalidateCache`.
   abbrev pub RunRefinesDisk : List Command → List Reply → Type 0
-  RunRefinesDisk commands replies = HasNoInvalidation (map command_of commands) → IsOpened (abstract_of view backing old []) → IsUntouched replies ⊎ RefinesDisk (image_abstraction view backing) old new (map command_of commands) (map reply_of replies)
+  RunRefinesDisk commands replies = HasNoInvalidation (map command_of commands) → IsOpened (abstract_of view backing old (in_image [])) → IsUntouched replies ⊎ RefinesDisk (image_abstraction view backing) old new (map command_of commands) (map reply_of replies)
 
 -- A part of a write, after its first `done` bytes. At some image `before` it, exactly these bytes are written, and the rest of the range is prepared.
 -- For the first part, `before` is the image at the start of the write.

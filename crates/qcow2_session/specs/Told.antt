@@ -1,4 +1,5 @@
 -- What the replies of a run report about the image itself, beyond their meaning for the guest's disk.
+use Rattle.qcow2_image.specs.declared.mapping.Place.TheVariants.{Image}
 use Rattle.std.specs.Prelude.{ℕ, ◌<◌, ◌≤◌, ◌≡◌, ◌⊎◌, false, IsTrue, IsNone, List, [], ◌∷◌, MatchOption, Option, Some, None, is_none, replicate, map, slice_get, slice_set}
 use Rattle.image_access.specs.Backing.{BackingView}
 use Rattle.image_access.specs.Moments.{StorageView}
@@ -13,7 +14,7 @@ use Rattle.qcow2_image.specs.declared.mapping.Mapping.{Mapping}
 use Rattle.qcow2_image.specs.declared.mapping.MappingKind.TheVariants.{Eof}
 use Rattle.qcow2_image.specs.declared.prepared.Prepared.{Prepared}
 use Rattle.qcow2_image.specs.Image.{is_beside, lacks_data_file, is_failed, is_writable, leaked_in, number_of, size_of}
-use Rattle.qcow2_image.specs.ImageInvariant.{abstract_of, meaning}
+use Rattle.qcow2_image.specs.ImageInvariant.{abstract_of, meaning, in_image}
 use Rattle.qcow2_image.specs.ListedClusters.{ListsNoMore}
 use Rattle.qcow2_image.specs.Prepared.{length_of, offset_of, table_of}
 use Rattle.qcow2_image.specs.Preparing.{IsAnswered, IsOfNothing}
@@ -94,7 +95,7 @@ module _ {S F : Type 0} (view : S → StorageView) (backing : F → BackingView)
     -- The mapping that a prepare returns: for no bytes, an existing one of no bytes; otherwise the range that `IsAnswered` describes, by the known contents before and at the return.
     pub record IsMappingFor (offset n : ℕ) (p : Prepared) : Type 0 where
       pub nothing : n ≡ 0 → IsOfNothing p
-      pub answered : 0 < n → IsAnswered old.file.header.fields (known_in view old.file) offset n new.file.header.fields (known_in view new.file) p (meaning view backing new p)
+      pub answered : 0 < n → IsAnswered old.file.header.fields (known_in view old.file) offset n new.file.header.fields (known_in view new.file) p (meaning view backing Image new p)
 
     -- A lookup returns a mapping of this image that begins at the offset and is no longer than `max`. At the size or past it, the mapping is empty.
     pub record IsLookup (offset max : ℕ) (m : Mapping) : Type 0 where
@@ -121,11 +122,11 @@ module _ {S F : Type 0} (view : S → StorageView) (backing : F → BackingView)
     ReplyMatchesImage before after C.Size (R.Size n) = n ≡ size_of new
     ReplyMatchesImage before after C.Leaked (R.Leaked n) = n ≡ leaked_in new
     ReplyMatchesImage before after (C.PrepareDataMapping slot offset n overwrite) (R.Prepared host count existing) =
-        (abstract_of view backing old before).is_sound → (p : Prepared) × (slice_get after slot ≡ Some (Some p)) × IsMappingFor offset n p
+        (abstract_of view backing old (in_image before)).is_sound → (p : Prepared) × (slice_get after slot ≡ Some (Some p)) × IsMappingFor offset n p
     ReplyMatchesImage before after (C.Write offset bytes) (R.Refused e) = ⊥
-    ReplyMatchesImage before after (C.Write offset bytes) R.Done = (abstract_of view backing old before).is_sound → ListsNoMore old new
+    ReplyMatchesImage before after (C.Write offset bytes) R.Done = (abstract_of view backing old (in_image before)).is_sound → ListsNoMore old new
     ReplyMatchesImage before after (C.Fill offset n byte) (R.Refused e) = ⊥
-    ReplyMatchesImage before after (C.Fill offset n byte) R.Done = (abstract_of view backing old before).is_sound → ListsNoMore old new
+    ReplyMatchesImage before after (C.Fill offset n byte) R.Done = (abstract_of view backing old (in_image before)).is_sound → ListsNoMore old new
     ReplyMatchesImage before after command reply = Unit {0}
 
   -- One command of a run, whatever the image contains. The reply matches the image, and the slots are those after the command. It is refused only for its causes, and with an I/O error only if one was counted.
@@ -134,7 +135,7 @@ module _ {S F : Type 0} (view : S → StorageView) (backing : F → BackingView)
     pub keeps : KeepsItself from.image to.image
     pub reports : ReplyMatchesImage from.image to.image from.prepared to.prepared command reply
     pub slots : SlotsAfter from.prepared command reply to.prepared
-    pub causes : RefusalJustified view backing from.image to.image from.prepared from.found command reply
+    pub causes : RefusalJustified view backing from.image to.image (in_image from.prepared) from.found command reply
     pub finds : (slot : ℕ) → to.found slot ≡ looked_up_after from.found command reply slot
     pub counts : CommandCounts view backing from.image to.image reply
     pub failed : MarksBy view from.image to.image command (refusal_in reply)
@@ -149,7 +150,7 @@ module _ {S F : Type 0} (view : S → StorageView) (backing : F → BackingView)
 
   -- The view of a point: the image with its prepared mappings.
   abbrev pub abstract_at : RunPoint S F → AbstractImage
-  abstract_at point = abstract_of view backing point.image point.prepared
+  abstract_at point = abstract_of view backing point.image (in_image point.prepared)
 
   -- Each command is a step of the run that agrees with the first point, between the same points.
   abbrev pub StepsAlong : (x : Setting) (first : RunPoint S F) (s : State) → List Command → List Reply → (points : List (RunPoint S F)) → (end : State) → Type 0
@@ -164,7 +165,7 @@ module _ {S F : Type 0} (view : S → StorageView) (backing : F → BackingView)
       pub points : List (RunPoint S F)
       pub last : RunPoint S F
       pub along : AreReportedAlong (first_point old) commands replies points last
-      pub steps : HasNoInvalidation (map command_of commands) → (x : Setting) (s : State) → RefinesState x (abstract_of view backing old []) s → (end : State) × StepsAlong x (first_point old) (begun s) commands replies points end
+      pub steps : HasNoInvalidation (map command_of commands) → (x : Setting) (s : State) → RefinesState x (abstract_of view backing old (in_image [])) s → (end : State) × StepsAlong x (first_point old) (begun s) commands replies points end
       pub leaves : ReleasesMappings view backing last.image new last.prepared []
       pub keeps : KeepsItself last.image new
       pub failed : is_failed new ≡ is_failed last.image

@@ -6,7 +6,7 @@ ghost use Rattle.qcow2_alloc.specs.declared.error.ImageError.TheVariants.{Invali
 ghost use Rattle.qcow2_image.specs.Created.{GrewFromNew, HasNoDataFile, IsAllowed, IsCreated, IsReasonNotToCreate, StopsCreating};
 ghost use Rattle.qcow2_image.specs.Created.{allocates_over, longest_disk};
 ghost use Rattle.qcow2_image.specs.Image.{number_of};
-ghost use Rattle.qcow2_image.specs.ImageInvariant.{IsHonestBacking, abstract_of};
+ghost use Rattle.qcow2_image.specs.ImageInvariant.{IsHonestBacking, abstract_of, Mappings};
 ghost use Rattle.qcow2_image.specs.Opened.{NeedsMissing, Opens};
 ghost use Rattle.qcow2_image.specs.Readable.{IsNewlyOpened, OpeningStep, files_missing};
 ghost use Rattle.qcow2_image.specs.declared.prepared.Prepared.{Prepared};
@@ -146,7 +146,7 @@ pub fn write_in_boxes(
         image.old image.new result }
     ensures fails { WriteFails ⟦<AnyStorage as Storage>⟧.view ⟦<AnyDisk as BackingDisk>⟧.backing
         image.old image.new result offset (length bytes.now) }
-    ensures sound { (out : List (Option Prepared))
+    ensures sound { (out : Mappings)
         → (abstract_of ⟦<AnyStorage as Storage>⟧.view ⟦<AnyDisk as BackingDisk>⟧.backing image.old out).is_sound
         → WroteSoundly ⟦<AnyStorage as Storage>⟧.view ⟦<AnyDisk as BackingDisk>⟧.backing
         image.old image.new result offset bytes.now out }

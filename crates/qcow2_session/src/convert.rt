@@ -7,7 +7,7 @@ ghost use Rattle.qcow2_disk.specs.Calls.{Shows};
 ghost use Rattle.qcow2_alloc.specs.ImageFile.{known_in};
 ghost use Rattle.qcow2_image.specs.Calls.{AnswersCall};
 ghost use Rattle.qcow2_image.specs.Image.{HasNothingToFree, is_writable, size_of};
-ghost use Rattle.qcow2_image.specs.ImageInvariant.{abstract_of};
+ghost use Rattle.qcow2_image.specs.ImageInvariant.{abstract_of, Mappings};
 ghost use Rattle.qcow2_image.specs.declared.prepared.Prepared.{Prepared};
 ghost use Rattle.qcow2_image.specs.MayFail.{MayFailReadingRange};
 ghost use Rattle.qcow2_image.specs.Refusals.{refuses_to_read};
@@ -68,10 +68,10 @@ fn import_all<R: Storage, S: Storage, F: WrappedFormat<S>>(
     ensures sees { (R.view raw.old).is_honest → size ≡ length (R.view raw.old).contents
         → ImportsAll S.view F.backing image.old image.new (R.view raw.old).contents result }
     ensures any { ImportsAnyOf S.view F.backing image.old image.new size result }
-    ensures late { refuses_to_read image.old 0 0 ≡ None → size ≡ size_of image.old → (out : List (Option Prepared))
+    ensures late { refuses_to_read image.old 0 0 ≡ None → size ≡ size_of image.old → (out : Mappings)
         → (abstract_of S.view F.backing image.old out).is_sound
         → IfErr result (IsReasonNotToWrite S.view F.backing image.old image.new 0 size out) }
-    ensures may_fail { refuses_to_read image.old 0 0 ≡ None → size ≡ size_of image.old → (out : List (Option Prepared))
+    ensures may_fail { refuses_to_read image.old 0 0 ≡ None → size ≡ size_of image.old → (out : Mappings)
         → (abstract_of S.view F.backing image.old out).is_sound
         → IfErr result (MayFailImporting S.view 0 size image.new out) }
     ensures differs { (R.view raw.old).is_honest → size ≡ length (R.view raw.old).contents
@@ -102,10 +102,10 @@ fn import_at<R: Storage, S: Storage, F: WrappedFormat<S>>(
         (bytes_at (R.view raw.old).contents at (length wanted.old)) result }
     ensures any { ImportsAnyAt S.view F.backing image.old image.new at (length wanted.old) result }
     ensures late { refuses_to_read image.old at (length wanted.old) ≡ None
-        → (out : List (Option Prepared))
+        → (out : Mappings)
         → (abstract_of S.view F.backing image.old out).is_sound
         → IfErr result (IsReasonNotToWrite S.view F.backing image.old image.new at (at + length wanted.old) out) }
-    ensures may_fail { refuses_to_read image.old at (length wanted.old) ≡ None → (out : List (Option Prepared))
+    ensures may_fail { refuses_to_read image.old at (length wanted.old) ≡ None → (out : Mappings)
         → (abstract_of S.view F.backing image.old out).is_sound
         → IfErr result (MayFailImporting S.view at (at + length wanted.old) image.new out) }
     ensures differs { (R.view raw.old).is_honest
@@ -137,7 +137,7 @@ pub fn to_raw<S: Storage, F: WrappedFormat<S>, R: Storage>(
     ensures early { IfSome (refuses_to_read image.old 0 0) (λ e. (result ≡ Err e) × (image.new ≡ image.old) × (raw.new ≡ raw.old)) }
     ensures sees { (R.view raw.old).is_honest → IfOk result (λ n. Exports S.view F.backing image.old (R.view raw.new).contents n) }
     ensures cause { IfErr result IsOfReading }
-    ensures may_fail { refuses_to_read image.old 0 0 ≡ None → (out : List (Option Prepared))
+    ensures may_fail { refuses_to_read image.old 0 0 ≡ None → (out : Mappings)
         → (abstract_of S.view F.backing image.old out).is_sound
         → IfErr result (MayFailReadingRange out 0 (size_of image.old) image.old.file.header.fields
         (known_in S.view image.old.file)) }
@@ -167,7 +167,7 @@ fn export_all<S: Storage, F: WrappedFormat<S>, R: Storage>(
     ensures sees { (R.view raw.old).is_honest
         → OnOk result (Fills S.view F.backing image.old 0 size (R.view raw.old).contents (R.view raw.new).contents) }
     ensures cause { IfErr result IsOfReading }
-    ensures may_fail { refuses_to_read image.old 0 0 ≡ None → size ≡ size_of image.old → (out : List (Option Prepared))
+    ensures may_fail { refuses_to_read image.old 0 0 ≡ None → size ≡ size_of image.old → (out : Mappings)
         → (abstract_of S.view F.backing image.old out).is_sound
         → IfErr result (MayFailReadingRange out 0 size image.old.file.header.fields (known_in S.view image.old.file)) }
 {
@@ -198,7 +198,7 @@ fn export_some<S: Storage, F: WrappedFormat<S>, R: Storage>(
         → IfOk result (λ n. Fills S.view F.backing image.old at (at + n) (R.view raw.old).contents
         (R.view raw.new).contents) }
     ensures cause { IfErr result IsOfReading }
-    ensures may_fail { refuses_to_read image.old at max ≡ None → (out : List (Option Prepared))
+    ensures may_fail { refuses_to_read image.old at max ≡ None → (out : Mappings)
         → (abstract_of S.view F.backing image.old out).is_sound
         → IfErr result (MayFailReadingRange out at (at + max) image.old.file.header.fields (known_in S.view image.old.file)) }
 {
@@ -222,7 +222,7 @@ fn zero_run<S: Storage, F: WrappedFormat<S>>(
     ensures sees { AnswersCall S.view F.backing image.old image.new []
         (λ n old new. Shows old.disk at (replicate n 0) × (new ≡ old)) result }
     ensures cause { IfErr result IsOfReading }
-    ensures may_fail { (out : List (Option Prepared)) → (abstract_of S.view F.backing image.old out).is_sound
+    ensures may_fail { (out : Mappings) → (abstract_of S.view F.backing image.old out).is_sound
         → IfErr result (MayFailReadingRange out at (at + max) image.old.file.header.fields (known_in S.view image.old.file)) }
 {
     let (mapping, found) = image.get_mapping(at, max)?;
@@ -246,7 +246,7 @@ fn export_at<S: Storage, F: WrappedFormat<S>, R: Storage>(
         → OnOk result (Fills S.view F.backing image.old at (at + length bytes.old) (R.view raw.old).contents
         (R.view raw.new).contents) }
     ensures cause { IfErr result IsOfReading }
-    ensures may_fail { refuses_to_read image.old at (length bytes.old) ≡ None → (out : List (Option Prepared))
+    ensures may_fail { refuses_to_read image.old at (length bytes.old) ≡ None → (out : Mappings)
         → (abstract_of S.view F.backing image.old out).is_sound
         → IfErr result (MayFailReadingRange out at (at + length bytes.old) image.old.file.header.fields
         (known_in S.view image.old.file)) }

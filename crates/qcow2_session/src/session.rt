@@ -12,7 +12,7 @@ ghost use Rattle.qcow2_image.specs.MayFail.{IsCacheHeld, MayFailMapped, MayFailR
 ghost use Rattle.qcow2_image.specs.HeldMappings.{RefusesHeld};
 ghost use Rattle.qcow2_image.specs.Image.{IsSameImage, is_failed, number_of, KeepsWholeHeader};
 ghost use Rattle.qcow2_image.specs.Prepared.{image_of};
-ghost use Rattle.qcow2_image.specs.ImageInvariant.{abstract_of};
+ghost use Rattle.qcow2_image.specs.ImageInvariant.{abstract_of, Mappings};
 ghost use Rattle.qcow2_image.specs.Calls.{Discards};
 ghost use Rattle.qcow2_image.specs.LookupCauses.{MayFailReadingFound};
 ghost use Rattle.qcow2_session.specs.ReadCauses.{MayFailReadingFrom};
@@ -255,7 +255,7 @@ fn read_some<S: Storage, F: WrappedFormat<S>>(
     ensures late { refuses_to_read image.old offset (length bytes.old) ≡ None → 0 < length bytes.old
         → IfErr result (MayFailReadingFrom image.new offset (offset + length bytes.old)) }
     ensures may_fail { refuses_to_read image.old offset (length bytes.old) ≡ None → 0 < length bytes.old
-        → (out : List (Option Prepared)) → (abstract_of S.view F.backing image.old out).is_sound
+        → (out : Mappings) → (abstract_of S.view F.backing image.old out).is_sound
         → IfErr result (MayFailReadingRange out offset (offset + length bytes.old) image.old.file.header.fields
         (known_in S.view image.old.file)) }
     ensures beyond { 0 < length bytes.old → IfErr result (IsRightlyBeyond image.old offset (length bytes.old)) }
@@ -284,7 +284,7 @@ pub fn write<S: Storage, F: WrappedFormat<S>>(
 ) -> Result<(), (ImageError, u64)>
     ensures step { WriteStep S.view F.backing image.old image.new result }
     ensures fails { WriteFails S.view F.backing image.old image.new result offset (length bytes.now) }
-    ensures sound { (out : List (Option Prepared)) → (abstract_of S.view F.backing image.old out).is_sound
+    ensures sound { (out : Mappings) → (abstract_of S.view F.backing image.old out).is_sound
         → WroteSoundly S.view F.backing image.old image.new result offset bytes.now out }
     ensures sees { Writes S.view F.backing image.old image.new offset bytes.now result }
 {
@@ -316,7 +316,7 @@ pub fn fill<S: Storage, F: WrappedFormat<S>>(
 ) -> Result<(), (ImageError, u64)>
     ensures step { WriteStep S.view F.backing image.old image.new result }
     ensures fails { WriteFails S.view F.backing image.old image.new result offset length }
-    ensures sound { (out : List (Option Prepared)) → (abstract_of S.view F.backing image.old out).is_sound
+    ensures sound { (out : Mappings) → (abstract_of S.view F.backing image.old out).is_sound
         → WroteSoundly S.view F.backing image.old image.new result offset (replicate length byte) out }
     ensures sees { Writes S.view F.backing image.old image.new offset (replicate length byte) result }
 {
@@ -338,7 +338,7 @@ fn write_some<S: Storage, F: WrappedFormat<S>>(
     ensures step { WritingParts S.view F.backing image.old image.new result }
     ensures fails { RefusesToWrite S.view F.backing image.old image.new result offset (length bytes.now) }
     ensures answers { WritesPart S.view F.backing image.old image.new offset bytes.now result }
-    ensures sound { (out : List (Option Prepared)) → (abstract_of S.view F.backing image.old out).is_sound
+    ensures sound { (out : Mappings) → (abstract_of S.view F.backing image.old out).is_sound
         → WritesPartSoundly S.view F.backing image.old image.new offset bytes.now out result }
     ensures sees { WritesFirst S.view F.backing image.old image.new offset bytes.now result }
 {
@@ -524,13 +524,13 @@ fn read_range<S: Storage, F: WrappedFormat<S>>(
     ensures late { refuses_mapping image.old mapping.now.image ≡ None → IfErr result (λ e.
         MayFailReadingFound image.old image.new (mapping.now.offset + at) length e × (0 < length)
         × RefusesHeld image.old image.new (mapping.now.offset + at) (further_by at mapping.now.kind) length e) }
-    ensures may_fail { refuses_mapping image.old mapping.now.image ≡ None → (out : List (Option Prepared))
+    ensures may_fail { refuses_mapping image.old mapping.now.image ≡ None → (out : Mappings)
         → (abstract_of S.view F.backing image.old out).is_sound
         → IfErr result (MayFailMapped (IsCacheHeld image.old out) (further_by at mapping.now.kind)
         (IsFoundWhole S.view image.old (mapping.now.offset + at) (further_by at mapping.now.kind) length)) }
-    ensures outdated { (out : List (Option Prepared)) → (abstract_of S.view F.backing image.old out).is_sound → result ≡ Err OutdatedMapping
+    ensures outdated { (out : Mappings) → (abstract_of S.view F.backing image.old out).is_sound → result ≡ Err OutdatedMapping
         → ¬ IsFoundWhole S.view image.old (mapping.now.offset + at) (further_by at mapping.now.kind) length }
-    ensures mapped { 0 < length → (out : List (Option Prepared)) → (abstract_of S.view F.backing image.old out).is_sound
+    ensures mapped { 0 < length → (out : Mappings) → (abstract_of S.view F.backing image.old out).is_sound
         → OnOk result (IsFoundWhole S.view image.old (mapping.now.offset + at)
         (further_by at mapping.now.kind) length) }
     ensures sees { Reads S.view F.backing image.old image.new (mapping.now.offset + at) length result }

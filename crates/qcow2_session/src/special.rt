@@ -8,7 +8,7 @@ ghost use Rattle.qcow2_image.specs.MayFail.{IsCacheHeld, MayFailLooking, MayFail
 ghost use Rattle.qcow2_image.specs.LookupCauses.{MayFailTelling};
 ghost use Rattle.qcow2_image.specs.Refusals.{unusable};
 ghost use Rattle.qcow2_alloc.specs.declared.error.ImageError.TheVariants.{Compressed, NotCompressed};
-ghost use Rattle.qcow2_image.specs.ImageInvariant.{abstract_of};
+ghost use Rattle.qcow2_image.specs.ImageInvariant.{abstract_of, Mappings};
 ghost use Rattle.qcow2_image.specs.declared.prepared.Prepared.{Prepared};
 ghost use Rattle.qcow2_session.specs.Commands.{IsOwnOffset, ReportsPlain, ReportsSpecial};
 ghost use Rattle.qcow2_session.specs.declared.session.Command.TheVariants.{ReadvSpecial, TryReadvSpecial};
@@ -61,11 +61,11 @@ fn read_range<S: Storage, F: WrappedFormat<S>>(
     ensures late { unusable image.old ≡ None → IfErr result (λ e.
         (MayFailTelling image.old image.new offset 1 e
         ⊎ ((e ≡ NotCompressed offset) × ¬ IsCompressedInTables image.new offset)) × (0 < length)) }
-    ensures may_fail { (out : List (Option Prepared)) → (abstract_of S.view F.backing image.old out).is_sound
+    ensures may_fail { (out : Mappings) → (abstract_of S.view F.backing image.old out).is_sound
         → IfErr result (MayFailSpecial (IsCacheHeld image.old out) offset) }
     ensures empty { IfOk result (λ done. length ≡ 0) }
     ensures own { IfErr result (IsOwnOffset offset) }
-    ensures reports { (out : List (Option Prepared)) → (abstract_of S.view F.backing image.old out).is_sound
+    ensures reports { (out : Mappings) → (abstract_of S.view F.backing image.old out).is_sound
         → ReportsSpecial (known_in S.view image.old.file) offset length result }
     ensures sees { AnswersCall S.view F.backing image.old image.new [] (λ done was is. is ≡ was) result }
 {
@@ -84,10 +84,10 @@ fn try_range<S: Storage, F: WrappedFormat<S>>(
     ensures early { IfSome (unusable image.old) (λ e. (result ≡ Err e) × (image.new ≡ image.old)) }
     ensures late { unusable image.old ≡ None → IfErr result (λ e.
         MayFailTelling image.old image.new offset 1 e × (0 < length)) }
-    ensures may_fail { (out : List (Option Prepared)) → (abstract_of S.view F.backing image.old out).is_sound
+    ensures may_fail { (out : Mappings) → (abstract_of S.view F.backing image.old out).is_sound
         → IfErr result (λ e. MayFailLooking (IsCacheHeld image.old out) e ⊎ (e ≡ Compressed)) }
     ensures answer { IfOk result (λ plain. MatchOption plain (length ≡ 0) (λ at. at ≡ offset)) }
-    ensures reports { (out : List (Option Prepared)) → (abstract_of S.view F.backing image.old out).is_sound
+    ensures reports { (out : Mappings) → (abstract_of S.view F.backing image.old out).is_sound
         → ReportsPlain (known_in S.view image.old.file) offset length result }
     ensures sees { AnswersCall S.view F.backing image.old image.new [] (λ plain was is. is ≡ was) result }
 {

@@ -15,6 +15,7 @@ use Rattle.qcow2_image.specs.declared.prepared.Prepared.{Prepared}
 use Rattle.qcow2_session.specs.Sessions.{IsOfReading}
 use Rattle.nbd_protocol.specs.declared.device.Errno.{Errno}
 use Rattle.nbd_protocol.specs.declared.device.Errno.TheVariants as E
+use Rattle.qcow2_image.specs.ImageInvariant.{in_image, Mappings}
 
 -- ---- what comes first
 
@@ -172,7 +173,7 @@ module _ {S F : Type 0} (view : S → StorageView) (backing : F → BackingView)
 
   pub size_is : a.is_sound → a.size ≡ size_of old
   unfolding disk_with
-  size_is sound = ap (λ (h : HeaderFields). h.size) (header_is view backing old [] sound)
+  size_is sound = ap (λ (h : HeaderFields). h.size) (header_is view backing old (in_image []) sound)
 
   -- each call of a failed image is refused as one of that, and leaves it as it is
   pub failed_reading : {T : Type 0} (offset n : ℕ) (r : Result T ImageError) → IfSome (refuses_to_read old offset n) (λ e. (r ≡ Err e) × (new ≡ old)) → IsTrue (is_failed old) → (r ≡ Err I.Failed) × (new ≡ old)
@@ -189,13 +190,13 @@ module _ {S F : Type 0} (view : S → StorageView) (backing : F → BackingView)
 
   -- why a read is refused
   pub reading_cause : {T : Type 0} (offset n : ℕ) (r : Result T ImageError) (e : ImageError) → r ≡ Err e → IfSome (refuses_to_read old offset n) (λ x. (r ≡ Err x) × (new ≡ old)) → IsOfReading e → (e ≡ I.BeyondSize → IsTrue (passes (size_of old) offset n))
-      → (refuses_to_read old offset n ≡ None → (out : List (Option Prepared)) → (abstract_of view backing old out).is_sound → MayFailReadingRange out offset (offset + n) old.file.header.fields (known_in view old.file) e)
+      → (refuses_to_read old offset n ≡ None → (out : Mappings) → (abstract_of view backing old out).is_sound → MayFailReadingRange out offset (offset + n) old.file.header.fields (known_in view old.file) e)
       → a.is_sound → RefusesToRead a (offset + n) (error_of e)
   reading_cause offset n r e is early reading past may_fail sound =
       read_told a (offset + n) e (reading_only e reading)
       (reading_limit (is_failed old) (lacks_data_file old) (passes (size_of old) offset n) e (refuses_to_read old offset n) refl
       (if_some_weaker (refuses_to_read old offset n) (λ x. (r ≡ Err x) × (new ≡ old)) (λ x. e ≡ x) (λ x h. same_refusal r e x is h.0) early)
-      (λ none limit. elim (may_fail none [] sound) [ inl looking ↦ looking_limit _ e looking limit | inr compressed ↦ let p = compressed.0 in absurd cc ]))
+      (λ none limit. elim (may_fail none (in_image []) sound) [ inl looking ↦ looking_limit _ e looking limit | inr compressed ↦ let p = compressed.0 in absurd cc ]))
       (λ p. let k = beyond (size_of old) offset n (past p) in let s = size_is sound in omega (arith, s, k))
 
   -- why a write is

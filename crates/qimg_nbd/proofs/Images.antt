@@ -1,4 +1,5 @@
 -- What the calls of an image do to it as a block device.
+use Rattle.qcow2_image.specs.ImageInvariant.{in_image}
 use Rattle.std.proofs.Common.{◌≡◌, ◌⊎◌, ◌+◌, ◌-◌, ◌<◌, ◌≤◌, inl, inr, ℕ, List, [], length, take, sym, ap, subst, ◌∙◌, arith, min, Some}
 use Rattle.qimg_nbd.proofs.Common.{IsTrue, cases_lt, BackingView, StorageView, known_byte, cluster_size, AbstractImage, Guest, Setting, guest_of, AnsweredEffect, CallEffect, IsSame, Refusal, RefusedEffect, WritesSome, another, memory, not_compressed, storage, with_disk, answered, touched_from, touched_to, Qcow2, abstract_of, AreUnits, Clears, DeviceView, MayWrite, Shows, Stays, Writes, byte_of, device_of}
 use Rattle.std.proofs.lemmas.List.{get_or-take, length-take-le}
@@ -37,10 +38,10 @@ front_outside d offset n bytes le o out =
 module _ {S F : Type 0} (view : S → StorageView) (backing : F → BackingView) (old new : Qcow2 S F) where
   -- the image, and the device that it is
   abbrev v : AbstractImage
-  v = abstract_of view backing old []
+  v = abstract_of view backing old (in_image [])
 
   abbrev w : AbstractImage
-  w = abstract_of view backing new []
+  w = abstract_of view backing new (in_image [])
 
   abbrev a : DeviceView
   a = device_of view backing old

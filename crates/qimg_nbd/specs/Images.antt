@@ -12,7 +12,7 @@ use Rattle.qcow2_image.specs.declared.mapping.MappingKind.{MappingKind}
 use Rattle.qcow2_image.specs.declared.mapping.MappingKind.TheVariants as M
 use Rattle.qcow2_image.specs.Calls.{AnswersCall, FlushesImage}
 use Rattle.qcow2_image.specs.Image.{is_failed, is_writable}
-use Rattle.qcow2_image.specs.ImageInvariant.{abstract_of}
+use Rattle.qcow2_image.specs.ImageInvariant.{abstract_of, in_image}
 use Rattle.qcow2_image.specs.ImageSteps.{ReadingCall}
 use Rattle.qcow2_image.specs.Unwritten.{ContentsStayThroughout}
 use Rattle.nbd_protocol.specs.Devices.{DeviceView}
@@ -28,7 +28,7 @@ byte_of (compressed_byte bytes place) = None
 
 -- The device of an image: the disk of its guest, while no mapping is prepared.
 abbrev pub device_of : {S F : Type 0} → (S → StorageView) → (F → BackingView) → Qcow2 S F → DeviceView
-device_of view backing image = let v = abstract_of view backing image [] in record {
+device_of view backing image = let v = abstract_of view backing image (in_image []) in record {
   is_sound = v.is_sound;
   is_failed = is_failed image;
   is_read_only = not (is_writable image);

@@ -1,10 +1,11 @@
 -- What a call that guests don't see does, from its parts.
 use Rattle.std.proofs.Common.{◌≡◌, ◌/◌, ◌<◌, ◌≤◌, ℕ, Bool, true, false, List, [], refl, sym, ap, ◌∙◌, subst, arith, Option, Some, None, IsTrue}
-use Rattle.qcow2_image.proofs.Common.{slice_get, option_map_or, cond-true, cond-false, fun_ext, BackingView, StorageView, Bytes, cluster_size, known_byte, disk, Pending, PreparedMapping, SameUsedBytes, used_by_guests, Setting, Guest, guest_of, meaning_at, EffectOnSound, unseen_disk, HeaderFields, state_in, contents_in, known_in, nothing_given, Qcow2, Prepared, below_of, of_data, of_tables, to_free, new_data_by, over_all, pending_in, abstract_of, meaning, is_entered, is_new, is_private, is_hidden, place_of, mapping_of_cluster, backing_bytes, ImageInvariant, MovesTables, pending_with_listed, ListGrows, InternalStep, InternalFreeingStep, stops_of}
+use Rattle.qcow2_image.proofs.Common.{slice_get, option_map_or, cond-true, cond-false, fun_ext, BackingView, StorageView, Bytes, cluster_size, known_byte, disk, Pending, PreparedMapping, SameUsedBytes, used_by_guests, Setting, Guest, guest_of, meaning_at, EffectOnSound, unseen_disk, HeaderFields, state_in, contents_in, known_in, nothing_given, Qcow2, Prepared, below_of, of_data, of_tables, to_free, new_data_by, over_all, pending_in, abstract_of, meaning, is_entered, is_new, is_private, is_hidden, place_of, mapping_of_cluster, backing_bytes, ImageInvariant, MovesTables, pending_with_listed, ListGrows, InternalStep, InternalFreeingStep, stops_of, Mappings, contents_for, disk_of}
 use Rattle.qcow2_image.proofs.Images.Moved.{format_file_step, format_stay}
 use Rattle.qcow2_image.proofs.Images.ClusterMappings.{private_used, used_unlaid}
 use Rattle.qcow2_image.proofs.Images.Sound.{free_more, pending_is}
 use Rattle.qcow2_image.proofs.Images.UngivenCovers.{all_stay}
+use Rattle.qcow2_image.proofs.Images.Places.{inside_of, from_image}
 
 pub same_guest : (a b : Guest) → a.disk ≡ b.disk → a.slots ≡ b.slots → a ≡ b
 same_guest a b disks slots = ap (λ d. record a { disk = d }) disks ∙ ap (λ f. record b { slots = f }) slots
@@ -18,14 +19,14 @@ pub same_setting : (a b : Setting) → a.cluster_size ≡ b.cluster_size → ◌
 same_setting a b sizes below = ap (λ n. record a { cluster_size = n }) sizes ∙ ap (λ (f : Bool × Bytes). record b { is_backed = f.0; backing = f.1 }) below
 
 -- where the list grows
-pub freeing_step_kept : {S F : Type 0} (view : S → StorageView) (backing : F → BackingView) (old new : Qcow2 S F) (out : List (Option Prepared)) (p p' : Pending) → InternalStep view backing p p' old new out → InternalFreeingStep view backing p p' old new out
+pub freeing_step_kept : {S F : Type 0} (view : S → StorageView) (backing : F → BackingView) (old new : Qcow2 S F) (out : Mappings) (p p' : Pending) → InternalStep view backing p p' old new out → InternalFreeingStep view backing p p' old new out
 freeing_step_kept view backing old new out p p' keeps = record { sound = keeps.sound; safe_step = keeps.safe_step; since = keeps.since; unseen = keeps.unseen; copied = keeps.copied; below = keeps.below; leaks = keeps.leaks }
 
-module _ {S F : Type 0} (view : S → StorageView) (backing : F → BackingView) (old new : Qcow2 S F) (out : List (Option Prepared)) where
+module _ {S F : Type 0} (view : S → StorageView) (backing : F → BackingView) (old new : Qcow2 S F) (out : Mappings) where
   -- with the clusters that are to be freed since, all that is pending is known
   pub followed : ImageInvariant view backing (pending_in view backing old out) old out → ListGrows old new
       → ImageInvariant view backing (pending_with_listed (pending_in view backing old out) old new) new out → pending_with_listed (pending_in view backing old out) old new ≡ pending_in view backing new out
-  followed sound grows still = pending_is view backing new out (pending_with_listed (pending_in view backing old out) old new) still.file.caches.kept.kept.crash_invariant still.inside (record {
+  followed sound grows still = pending_is view backing new out (pending_with_listed (pending_in view backing old out) old new) still.file.caches.kept.kept.crash_invariant (inside_of still) (record {
     new_data = λ k. refl;
     new_tables = λ k. refl;
     old_tables = λ k. let e = ap (λ l. to_free of_tables l k) grows.is ∙ free_more of_tables old.file.free_list grows.more k in omega arith;
@@ -35,27 +36,27 @@ module _ {S F : Type 0} (view : S → StorageView) (backing : F → BackingView)
   -- the header stays the same, except perhaps the offsets of tables
   module _ (same_header : MovesTables old.file.header.fields new.file.header.fields) where
     -- a prepared mapping means what it meant, where its private bytes stay
-    module _ (q : Prepared) (own_bytes : (o : ℕ) → IsTrue (is_private view backing old q o) → contents_in view new.file (place_of old.file.header.fields q o) ≡ contents_in view old.file (place_of old.file.header.fields q o)) where
+    module _ (q : Prepared) (own_bytes : (o : ℕ) → IsTrue (is_private view backing old q o) → contents_for view backing out.place new (place_of old.file.header.fields q o) ≡ contents_for view backing out.place old (place_of old.file.header.fields q o)) where
       pub same_private : is_private view backing new q ≡ is_private view backing old q
       same_private = let test : HeaderFields → ℕ → Bool = λ h o. option_map_or is_entered (mapping_of_cluster h q (o / cluster_size h)) false in ap test same_header
 
       same_hidden : is_hidden view backing new q ≡ is_hidden view backing old q
       same_hidden = let test : HeaderFields → ℕ → Bool = λ h o. option_map_or is_new (mapping_of_cluster h q (o / cluster_size h)) false in ap test same_header
 
-      same_shown : (o : ℕ) (b : Bool) → is_private view backing old q o ≡ b → (meaning view backing new q).shown o ≡ (meaning view backing old q).shown o
+      same_shown : (o : ℕ) (b : Bool) → is_private view backing old q o ≡ b → (meaning view backing out.place new q).shown o ≡ (meaning view backing out.place old q).shown o
       same_shown o true is =
           let now : is_private view backing new q o ≡ true = ap (λ (f : ℕ → Bool). f o) same_private ∙ is in
-          ap known_byte (cond-true _ _ _ now ∙ ap (contents_in view new.file) (ap (λ (h : HeaderFields). place_of h q o) same_header) ∙ own_bytes o is ∙ sym (cond-true _ _ _ is))
+          ap known_byte (cond-true _ _ _ now ∙ ap (contents_for view backing out.place new) (ap (λ (h : HeaderFields). place_of h q o) same_header) ∙ own_bytes o is ∙ sym (cond-true _ _ _ is))
       same_shown o false is =
           let now : is_private view backing new q o ≡ false = ap (λ (f : ℕ → Bool). f o) same_private ∙ is in
           ap known_byte (cond-false _ _ _ now ∙ sym (cond-false _ _ _ is))
 
-      pub same_meaning : meaning view backing new q ≡ meaning view backing old q
+      pub same_meaning : meaning view backing out.place new q ≡ meaning view backing out.place old q
       same_meaning = same_mapping _ _ refl refl same_private same_hidden (fun_ext (λ o. same_shown o (is_private view backing old q o) refl))
 
     -- so do all
-    module _ (private_bytes : (k : ℕ) (q : Prepared) → slice_get out k ≡ Some (Some q) → (o : ℕ) → IsTrue (is_private view backing old q o) → contents_in view new.file (place_of old.file.header.fields q o) ≡ contents_in view old.file (place_of old.file.header.fields q o)) where
-      pub same_slot : (k : ℕ) (m : Option (Option Prepared)) → slice_get out k ≡ m → meaning_at (meaning view backing new) m ≡ meaning_at (meaning view backing old) m
+    module _ (private_bytes : (k : ℕ) (q : Prepared) → slice_get out.slots k ≡ Some (Some q) → (o : ℕ) → IsTrue (is_private view backing old q o) → contents_for view backing out.place new (place_of old.file.header.fields q o) ≡ contents_for view backing out.place old (place_of old.file.header.fields q o)) where
+      pub same_slot : (k : ℕ) (m : Option (Option Prepared)) → slice_get out.slots k ≡ m → meaning_at (meaning view backing out.place new) m ≡ meaning_at (meaning view backing out.place old) m
       same_slot k None at = refl
       same_slot k (Some None) at = refl
       same_slot k (Some (Some q)) at = ap Some (same_meaning q (private_bytes k q at))
@@ -68,7 +69,7 @@ module _ {S F : Type 0} (view : S → StorageView) (backing : F → BackingView)
       used_bytes o before after =
           used_unlaid (state_in view new.file p') sound'.file.caches.kept.kept.crash_invariant o after ∙ bytes o before ∙ sym (used_unlaid (state_in view old.file p) sound.file.caches.kept.kept.crash_invariant o before)
 
-      private_bytes : (k : ℕ) (q : Prepared) → slice_get out k ≡ Some (Some q) → (o : ℕ) → IsTrue (is_private view backing old q o) → contents_in view new.file (place_of old.file.header.fields q o) ≡ contents_in view old.file (place_of old.file.header.fields q o)
+      private_bytes : (k : ℕ) (q : Prepared) → slice_get out.slots k ≡ Some (Some q) → (o : ℕ) → IsTrue (is_private view backing old q o) → contents_in view new.file (place_of old.file.header.fields q o) ≡ contents_in view old.file (place_of old.file.header.fields q o)
       private_bytes k q at o private =
           let now : IsTrue (is_private view backing new q o) = ap (λ (h : HeaderFields). option_map_or is_entered (mapping_of_cluster h q (o / cluster_size h)) false) same_header ∙ private in
           let place : place_of new.file.header.fields q o ≡ place_of old.file.header.fields q o = ap (λ (h : HeaderFields). place_of h q o) same_header in
@@ -78,12 +79,12 @@ module _ {S F : Type 0} (view : S → StorageView) (backing : F → BackingView)
       pub still_shown : ((disk_below : Bytes) → disk (known_in view new.file) disk_below ≡ disk (known_in view old.file) disk_below) → below_of view backing new.backing ≡ below_of view backing old.backing
           → guest_of (abstract_of view backing new out) ≡ guest_of (abstract_of view backing old out)
       still_shown shows below = same_guest _ _
-          (shows (backing_bytes view backing new.backing) ∙ ap (λ (b : Bool × Bytes). disk (known_in view old.file) b.1) below)
-          (fun_ext (λ k. same_slot same_header private_bytes k (slice_get out k) refl))
+          (from_image (λ place. disk_of view backing place new ≡ disk_of view backing place old) sound (shows (backing_bytes view backing new.backing) ∙ ap (λ (b : Bool × Bytes). disk (known_in view old.file) b.1) below))
+          (fun_ext (λ k. same_slot same_header (λ j q at o private. from_image (λ place. contents_for view backing place new (place_of old.file.header.fields q o) ≡ contents_for view backing place old (place_of old.file.header.fields q o)) sound (private_bytes j q at o private)) k (slice_get out.slots k) refl))
 
     pub still_seen : InternalFreeingStep view backing p p' old new out → guest_of (abstract_of view backing new out) ≡ guest_of (abstract_of view backing old out)
     still_seen freeing_step = still_shown freeing_step.sound (format_file_step old.file.header.fields new.file.header.fields freeing_step.unseen.header) freeing_step.unseen.bytes
-        (unseen_disk (state_in view old.file p) (state_in view new.file p') sound.file.caches.kept.kept.crash_invariant sound.inside freeing_step.sound.file.caches.kept.kept.crash_invariant freeing_step.unseen) freeing_step.below
+        (unseen_disk (state_in view old.file p) (state_in view new.file p') sound.file.caches.kept.kept.crash_invariant (inside_of sound) freeing_step.sound.file.caches.kept.kept.crash_invariant freeing_step.unseen) freeing_step.below
 
   -- ---- a whole call that no guest sees
 

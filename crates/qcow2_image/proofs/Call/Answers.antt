@@ -1,12 +1,12 @@
 -- What the parts of a call say of its result.
 use Rattle.std.proofs.Common.{◌≡◌, ◌&&◌, ℕ, Bool, true, false, List, [], refl, sym, subst, nat_lt, Option, Result, Ok, Err, IsErr, IsErrAnd}
-use Rattle.qcow2_image.proofs.Common.{not, MatchOption, option_or, BackingView, StorageView, GivenBytes, Guest, RefusedEffect, IsSame, ImageError, Qcow2, Prepared, refusal_of, AnswersCall, is_failed, lacks_data_file, is_writable, size_of, passes, refuse_if, refuses_to_prepare, unusable, abstract_of}
+use Rattle.qcow2_image.proofs.Common.{not, MatchOption, option_or, BackingView, StorageView, GivenBytes, Guest, RefusedEffect, IsSame, ImageError, Qcow2, Prepared, refusal_of, AnswersCall, is_failed, lacks_data_file, is_writable, size_of, passes, refuse_if, refuses_to_prepare, unusable, abstract_of, Mappings}
 use Rattle.qcow2_alloc.specs.declared.error.ImageError.TheVariants as I
 
 module _ {S F : Type 0} (view : S → StorageView) (backing : F → BackingView) (old new : Qcow2 S F) where
   -- an answer that is this refusal
   pub answers_err : {A : Type 0} (given : List GivenBytes) (Done : A → Guest → Guest → Type 0) (r : Result A ImageError) (e : ImageError) → IsErr r × IsErrAnd r (λ x. x ≡ e)
-      → ((out : List (Option Prepared)) → RefusedEffect (abstract_of view backing old out) (abstract_of view backing new out) given [] (refusal_of e) (IsSame (abstract_of view backing old out) (abstract_of view backing new out)))
+      → ((out : Mappings) → RefusedEffect (abstract_of view backing old out) (abstract_of view backing new out) given [] (refusal_of e) (IsSame (abstract_of view backing old out) (abstract_of view backing new out)))
       → AnswersCall view backing old new given Done r
   answers_err given Done (Ok a) e is refuses = absurd (let no : false ≡ true = is.0 in cc)
   answers_err given Done (Err x) e is refuses = λ out.

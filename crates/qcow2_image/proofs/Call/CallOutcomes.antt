@@ -1,6 +1,6 @@
 -- A call succeeds, or is refused and marks the image as failed by the rule, depending on what its work did.
 use Rattle.std.proofs.Common.{◌≡◌, ◌⊎◌, inl, inr, Bool, true, false, List, [], refl, sym, ap, ◌∙◌, subst, Option, IsTrue}
-use Rattle.qcow2_image.proofs.Common.{BackingView, StorageView, GivenBytes, storage, IsRefusalByFault, EffectOnSound, AnsweredEffect, RefusedEffect, IsSame, ImageError, Qcow2, Prepared, refusal_of, number_of, is_failed, ImageInvariant, pending_in, abstract_of, stops_as}
+use Rattle.qcow2_image.proofs.Common.{BackingView, StorageView, GivenBytes, storage, IsRefusalByFault, EffectOnSound, AnsweredEffect, RefusedEffect, IsSame, ImageError, Qcow2, Prepared, refusal_of, number_of, is_failed, ImageInvariant, pending_in, abstract_of, stops_as, Mappings}
 use Rattle.qcow2_alloc.specs.declared.error.ImageError.TheVariants as I
 use Rattle.qcow2_image.proofs.Call.Marked.{MayMark}
 
@@ -22,7 +22,7 @@ is_fault e before now (inl failed) is = failed.1
 is_fault e before now (inr (inl failed)) is = failed.1
 is_fault e before now (inr (inr kept)) is = absurd (kept.1 is)
 
-module _ {S F : Type 0} (view : S → StorageView) (backing : F → BackingView) (old new : Qcow2 S F) (out out' : List (Option Prepared)) (given : List GivenBytes)
+module _ {S F : Type 0} (view : S → StorageView) (backing : F → BackingView) (old new : Qcow2 S F) (out out' : Mappings) (given : List GivenBytes)
     (acts : ImageInvariant view backing (pending_in view backing old out) old out → EffectOnSound (abstract_of view backing old out) (abstract_of view backing new out') given [])
     (still : ImageInvariant view backing (pending_in view backing old out) old out → ImageInvariant view backing (pending_in view backing new out') new out') (number : number_of new ≡ number_of old) (usable : is_failed old ≡ false) where
   -- it was answered
@@ -36,7 +36,7 @@ module _ {S F : Type 0} (view : S → StorageView) (backing : F → BackingView)
   module _ (marked : Bool) where
     still_sound : marked ≡ is_failed new → ImageInvariant view backing (pending_in view backing new out') new out'
         → ImageInvariant view backing (pending_in view backing (record new { is_failed = marked }) out') (record new { is_failed = marked }) out'
-    still_sound same s = record { works = same ∙ s.works; file = s.file; l1_table = s.l1_table; reftable = s.reftable; inside = s.inside; alone = s.alone; below = s.below; ready = λ k q at. let r = s.ready k q at in record { own = r.own; mapped = r.mapped }; pinned = s.pinned; once = s.once }
+    still_sound same s = record { works = same ∙ s.works; file = s.file; l1_table = s.l1_table; reftable = s.reftable; stands = s.stands; below = s.below; ready = λ k q at. let r = s.ready k q at in record { own = r.own; mapped = r.mapped }; pinned = s.pinned; once = s.once }
 
     still_works : ImageInvariant view backing (pending_in view backing old out) old out → EffectOnSound (abstract_of view backing old out) (abstract_of view backing (record new { is_failed = marked }) out') given []
     still_works sound = let w = acts sound in record {

@@ -1,6 +1,6 @@
 -- Calls that guests don't see, from their parts.
 use Rattle.std.proofs.Common.{◌≡◌, ◌<◌, ◌++◌, inl, ℕ, Bool, false, List, [], refl, sym, ap, ◌∙◌, subst, arith, Option, Result, Ok, Err, IfOk}
-use Rattle.qcow2_image.proofs.Common.{append_assoc, fun_ext, BackingView, StorageView, l1_entry, Pending, KeepsFormat, Guest, AbstractImage, guest_of, Refusal, storage, EffectOnSound, AnsweredEffect, RefusedEffect, IsSame, l1_format, safe_step_then, steps_safe_throughout, unseen_then, ImageError, state_in, view_in, nothing_given, Qcow2, Prepared, refusal_of, AnswersCall, number_of, is_failed, of_data, of_tables, to_free, ImageInvariant, pending_in, abstract_of, NamesOwn, KeepsCopied, pending_with_listed, InternalStep, stops_none, rests_none}
+use Rattle.qcow2_image.proofs.Common.{append_assoc, fun_ext, BackingView, StorageView, l1_entry, Pending, KeepsFormat, Guest, AbstractImage, guest_of, Refusal, storage, EffectOnSound, AnsweredEffect, RefusedEffect, IsSame, l1_format, safe_step_then, steps_safe_throughout, unseen_then, ImageError, state_in, view_in, nothing_given, Qcow2, Prepared, refusal_of, AnswersCall, number_of, is_failed, of_data, of_tables, to_free, ImageInvariant, pending_in, abstract_of, NamesOwn, KeepsCopied, pending_with_listed, InternalStep, stops_none, rests_none, Mappings}
 use Rattle.qcow2_image.proofs.Call.Marked.{MayMark, MayMarkBy}
 use Rattle.qcow2_image.proofs.Call.Answered.{works_now, sound_now, same_now}
 use Rattle.qcow2_image.proofs.Call.CallOutcomes.{outcome_answered, outcome_refused}
@@ -26,7 +26,7 @@ module _ (v : AbstractImage) where
 pub same_freed : (p q : Pending) → q ≡ record p { old_tables = q.old_tables; old_data = q.old_data } → p.old_tables ≡ q.old_tables → p.old_data ≡ q.old_data → p ≡ q
 same_freed p q rest old_tables old_data = ap (λ f. record p { old_tables = f }) old_tables ∙ ap (λ f. record p { old_tables = q.old_tables; old_data = f }) old_data ∙ sym rest
 
-module _ {S F : Type 0} (view : S → StorageView) (backing : F → BackingView) (out : List (Option Prepared)) where
+module _ {S F : Type 0} (view : S → StorageView) (backing : F → BackingView) (out : Mappings) where
   -- one part after another
   module _ (a b c : Qcow2 S F) (p p' p'' : Pending) where
     pub copied_then : KeepsFormat a.file.header.fields b.file.header.fields → KeepsCopied (state_in view a.file p) (state_in view b.file p') → KeepsCopied (state_in view b.file p') (state_in view c.file p'')
@@ -84,9 +84,9 @@ module _ {S F : Type 0} (view : S → StorageView) (backing : F → BackingView)
 
 module _ {S F : Type 0} (view : S → StorageView) (backing : F → BackingView) where
   -- two parts after one another
-  pub quietly_then : (out : List (Option Prepared)) (a b c : Qcow2 S F)
-      → ((p : Pending) (out : List (Option Prepared)) → ImageInvariant view backing p a out → InternalStep view backing p p a b out) → b.file.free_list ≡ a.file.free_list
-      → ((p : Pending) (out : List (Option Prepared)) → ImageInvariant view backing p b out → InternalStep view backing p p b c out) → c.file.free_list ≡ b.file.free_list
+  pub quietly_then : (out : Mappings) (a b c : Qcow2 S F)
+      → ((p : Pending) (out : Mappings) → ImageInvariant view backing p a out → InternalStep view backing p p a b out) → b.file.free_list ≡ a.file.free_list
+      → ((p : Pending) (out : Mappings) → ImageInvariant view backing p b out → InternalStep view backing p p b c out) → c.file.free_list ≡ b.file.free_list
       → ImageInvariant view backing (pending_in view backing a out) a out → Quietly view backing out a c
   quietly_then out a b c first listed then still sound =
       let p = pending_in view backing a out in
@@ -95,17 +95,17 @@ module _ {S F : Type 0} (view : S → StorageView) (backing : F → BackingView)
 
   -- what the result of a call says that guests don't see
   abbrev pub Tells : (old new : Qcow2 S F) {A : Type 0} → (A → AbstractImage → AbstractImage → Type 0) → Result A ImageError → Type 0
-  Tells old new Done (Ok a) = (out : List (Option Prepared)) → let v = abstract_of view backing old out in let w = abstract_of view backing new out in AnsweredEffect v w [] [] (Done a v w)
-  Tells old new Done (Err e) = (out : List (Option Prepared)) → let v = abstract_of view backing old out in let w = abstract_of view backing new out in RefusedEffect v w [] [] (refusal_of e) (IsSame v w)
+  Tells old new Done (Ok a) = (out : Mappings) → let v = abstract_of view backing old out in let w = abstract_of view backing new out in AnsweredEffect v w [] [] (Done a v w)
+  Tells old new Done (Err e) = (out : Mappings) → let v = abstract_of view backing old out in let w = abstract_of view backing new out in RefusedEffect v w [] [] (refusal_of e) (IsSame v w)
 
   pub told_answers : (old new : Qcow2 S F) {A : Type 0} (Done : A → Guest → Guest → Type 0) (r : Result A ImageError) → Tells old new (λ a v w. Done a (guest_of v) (guest_of w)) r → AnswersCall view backing old new [] Done r
   told_answers old new Done (Ok a) told = told
   told_answers old new Done (Err e) told = told
 
-  module _ (old new : Qcow2 S F) (quiet : (out : List (Option Prepared)) → ImageInvariant view backing (pending_in view backing old out) old out → Quietly view backing out old new) (marked : Bool) where
+  module _ (old new : Qcow2 S F) (quiet : (out : Mappings) → ImageInvariant view backing (pending_in view backing old out) old out → Quietly view backing out old new) (marked : Bool) where
     -- it gives its answer, or is refused
     pub tells_quietly : {A : Type 0} (Done : A → AbstractImage → AbstractImage → Type 0) (done : Result A ImageError) → MayMarkBy done (is_failed new) marked → number_of new ≡ number_of old → is_failed old ≡ false
-        → ((out : List (Option Prepared)) → ImageInvariant view backing (pending_in view backing old out) old out → IsSame (abstract_of view backing old out) (abstract_of view backing new out)
+        → ((out : Mappings) → ImageInvariant view backing (pending_in view backing old out) old out → IsSame (abstract_of view backing old out) (abstract_of view backing new out)
         → IfOk done (λ a. Done a (abstract_of view backing old out) (abstract_of view backing new out)))
         → Tells old (record new { is_failed = marked }) Done done
     tells_quietly Done (Ok a) marks number works done = λ out.

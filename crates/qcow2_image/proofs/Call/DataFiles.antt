@@ -1,11 +1,12 @@
 -- Calls that reach the data file of an image alone leave all else the same.
 use Rattle.std.proofs.Common.{◌≡◌, ◌∙◌, ℕ, arith, if◌then◌else◌, true, false, ◌&&◌, List, Option, Some, None, Bool, is_none, is_some, refl, sym, ap, subst, IfSome, MatchOption, Result, Ok, Err}
-use Rattle.qcow2_image.proofs.Common.{BackingView, StorageView, DataFile, Image, IsOwn, IsPlacedBehind, IsSameImage, cluster_size, Pending, notes_none, has_data_file, ImageError, CallsBeside, DataFileStep, ImageInvariant, ImageStays, ImageStep, InternalStep, KeepsFileNotes, PreservesHeaderCluster, Prepared, Qcow2, ReadingStep, ReadsQuietly, is_failed, is_placed_by_guest, is_writable, number_of, size_of}
+use Rattle.qcow2_image.proofs.Common.{BackingView, StorageView, DataFile, Image, IsOwn, IsPlacedBehind, IsSameImage, cluster_size, Pending, notes_none, has_data_file, ImageError, CallsBeside, DataFileStep, ImageInvariant, ImageStays, ImageStep, InternalStep, KeepsFileNotes, PreservesHeaderCluster, Prepared, Qcow2, ReadingStep, ReadsQuietly, is_failed, is_placed_by_guest, is_writable, number_of, size_of, Mappings}
 use Rattle.qcow2_image.proofs.Call.BehindHeader.{behind_none}
 use Rattle.qcow2_image.proofs.Call.FaultCounts.{counted_ok, untouched}
 use Rattle.qcow2_image.proofs.Call.ImageSteps.{step_none}
 use Rattle.qcow2_image.proofs.Map.Quiet.{reads_none}
 use Rattle.qcow2_image.proofs.Prepare.UnlinkedL2Table.{keeps_none}
+use Rattle.qcow2_image.proofs.Images.Places.{alone_of}
 
 -- a file is missing as another is
 pub none_as : {A : Type 0} (a b : Option A) → is_some a ≡ is_some b → is_none a ≡ is_none b
@@ -83,5 +84,5 @@ module _ {S F : Type 0} {view : S → StorageView} {backing : F → BackingView}
   }
 
   -- a sound image has no data file
-  pub keeps_beside : (p : Pending) (out : List (Option Prepared)) → ImageInvariant view backing p old out → InternalStep view backing p p old new out
-  keeps_beside p out sound = subst (λ (i : Qcow2 S F). InternalStep view backing p p old i out) (sym (beside.none sound.alone).1) (keeps_none view backing out p old sound)
+  pub keeps_beside : (p : Pending) (out : Mappings) → ImageInvariant view backing p old out → InternalStep view backing p p old new out
+  keeps_beside p out sound = subst (λ (i : Qcow2 S F). InternalStep view backing p p old i out) (sym (beside.none (alone_of sound)).1) (keeps_none view backing out p old sound)

@@ -1,9 +1,9 @@
 -- A part is refused, and clusters are freed after the refusal.
 use Rattle.std.proofs.Common.{◌≡◌, ℕ, inl, inr, List, sym, subst, Option}
-use Rattle.qcow2_image.proofs.Common.{BackingView, StorageView, HeaderView, IsFault, ImageError, RefusedCall, Qcow2, Prepared, l1_index_of, ImageInvariant, pending_in, IsFaultOrLacksTable, MayName, FreesRefused}
+use Rattle.qcow2_image.proofs.Common.{BackingView, StorageView, HeaderView, IsFault, ImageError, RefusedCall, Qcow2, Prepared, l1_index_of, ImageInvariant, pending_in, IsFaultOrLacksTable, MayName, FreesRefused, Mappings}
 use Rattle.qcow2_image.proofs.Prepare.UnlinkedL2Table.{may_still}
 
-module _ {S F : Type 0} (view : S → StorageView) (backing : F → BackingView) (out : List (Option Prepared)) (old mid new : Qcow2 S F) (e e' : ImageError)
+module _ {S F : Type 0} (view : S → StorageView) (backing : F → BackingView) (out : Mappings) (old mid new : Qcow2 S F) (e e' : ImageError)
     (back : RefusedCall view backing old mid out e) (fault : IsFault e → (e' ≡ e) × (new ≡ mid)) where
   -- nothing is left to be freed then
   pub refused_freed : (ImageInvariant view backing (pending_in view backing mid out) mid out → FreesRefused new e') → FreesRefused new e'

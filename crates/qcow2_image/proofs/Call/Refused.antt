@@ -1,6 +1,6 @@
 -- A refused call: everything is as before except for the clusters to free, or a fault interrupted the call.
 use Rattle.std.proofs.Common.{◌≡◌, ◌⊎◌, ⊎_elim, inl, inr, ℕ, Bool, true, false, List, [], Option, Some, refl, sym, ap, ◌∙◌, subst, arith, Result, Ok, Err, IsTrue}
-use Rattle.qcow2_image.proofs.Common.{slice_set, BackingView, StorageView, HeaderFields, cluster_size, IsRefusalByFault, IsSame, RefusedEffect, EffectOnSound, with_slot, Disk, IsPrepared, works_then, stops_of, Pending, SameCovers, Guest, Setting, guest_of, ImageError, known_in, nothing_given, InterruptedFileStep, Qcow2, Prepared, refusal_of, number_of, is_failed, KeepsRestOn, has_noted_change, leaked_in, InternalCall, InterruptedCall, RefusedCall, FindsTable, IsReadied, PreparesRange, InterruptedStep, Ensures, InternalFillingStep, RefusedFillingStep, InternalStep, RefusedStep, pending_with_listed, of_data, of_tables, to_free, pending_in, abstract_of, meaning, below_of, ImageInvariant}
+use Rattle.qcow2_image.proofs.Common.{slice_set, BackingView, StorageView, HeaderFields, cluster_size, IsRefusalByFault, IsSame, RefusedEffect, EffectOnSound, with_slot, Disk, IsPrepared, works_then, stops_of, Pending, SameCovers, Guest, Setting, guest_of, ImageError, known_in, nothing_given, InterruptedFileStep, Qcow2, Prepared, refusal_of, number_of, is_failed, KeepsRestOn, has_noted_change, leaked_in, InternalCall, InterruptedCall, RefusedCall, FindsTable, IsReadied, PreparesRange, InterruptedStep, Ensures, InternalFillingStep, RefusedFillingStep, InternalStep, RefusedStep, pending_with_listed, of_data, of_tables, to_free, pending_in, abstract_of, meaning, below_of, ImageInvariant, Mappings, set_slot}
 use Rattle.qcow2_alloc.specs.ImageError.{IsFault as FaultOfTables}
 use Rattle.qcow2_alloc.specs.declared.error.ImageError.TheVariants as I
 use Rattle.qcow2_image.proofs.Call.Marked.{MayMark}
@@ -17,7 +17,7 @@ marks_fault e before marked recorded fault is marks memory = ⊎_elim
     (λ (failed : e ≡ I.Storage). (subst (λ (x : ImageError). MayMark x before marked) failed marks, subst (λ (x : ImageError). IsRefusalByFault (refusal_of x)) (sym failed) tt))
     (λ (want : e ≡ I.Memory). (memory want (is want), subst (λ (x : ImageError). IsRefusalByFault (refusal_of x)) (sym want) tt)) fault
 
-module _ {S F : Type 0} (view : S → StorageView) (backing : F → BackingView) (out : List (Option Prepared)) where
+module _ {S F : Type 0} (view : S → StorageView) (backing : F → BackingView) (out : Mappings) where
   -- a step after which the guest sees what it saw
   pub stays_stepped : (old new : Qcow2 S F) (p : Pending) → Steps view backing old new out out nothing_given p → guest_of (abstract_of view backing new out) ≡ guest_of (abstract_of view backing old out)
       → SameCovers old.file.header.fields (known_in view old.file) (known_in view new.file) → InternalCall view backing old new out
@@ -70,13 +70,13 @@ module _ {S F : Type 0} (view : S → StorageView) (backing : F → BackingView)
 
     pub readied_after : (k offset n : ℕ) (overwrite : Bool) (p : Prepared) → IsReadied view backing b c out k offset n overwrite p → IsReadied view backing a c out k offset n overwrite p
     readied_after k offset n overwrite p is = record {
-      works = works_then (abstract_of view backing a out) (abstract_of view backing b out) (abstract_of view backing c (slice_set out k (Some p))) [] [] first.sound first.works is.works;
+      works = works_then (abstract_of view backing a out) (abstract_of view backing b out) (abstract_of view backing c (set_slot out k (Some p))) [] [] first.sound first.works is.works;
       sound = is.sound;
       header = file_step_then a.file.header.fields b.file.header.fields c.file.header.fields first.header is.header;
       covers = stay_then a.file.header.fields b.file.header.fields c.file.header.fields (known_in view a.file) (known_in view b.file) (known_in view c.file) first.covers is.covers;
-      prepared = subst (λ (d : Disk). IsPrepared (cluster_size a.file.header.fields) d offset n overwrite (meaning view backing c p)) (ap (λ (g : Guest). g.disk) first.same)
-          (subst (λ size. IsPrepared size (guest_of (abstract_of view backing b out)).disk offset n overwrite (meaning view backing c p)) (ap (λ (x : Setting). x.cluster_size) first.works.setting) is.prepared);
-      is = is.is ∙ ap (λ (g : Guest). with_slot g k (Some (meaning view backing c p))) first.same;
+      prepared = subst (λ (d : Disk). IsPrepared (cluster_size a.file.header.fields) d offset n overwrite (meaning view backing out.place c p)) (ap (λ (g : Guest). g.disk) first.same)
+          (subst (λ size. IsPrepared size (guest_of (abstract_of view backing b out)).disk offset n overwrite (meaning view backing out.place c p)) (ap (λ (x : Setting). x.cluster_size) first.works.setting) is.prepared);
+      is = is.is ∙ ap (λ (g : Guest). with_slot g k (Some (meaning view backing out.place c p))) first.same;
     }
 
     pub prepares_after : (offset n : ℕ) (overwrite : Bool) (r : Result Prepared ImageError) → PreparesRange view backing b c out offset n overwrite r → PreparesRange view backing a c out offset n overwrite r

@@ -1,10 +1,11 @@
 -- What a call does, from one step of the driver and the mappings that are prepared afterwards.
 use Rattle.std.proofs.Common.{◌≡◌, List, [], sym, ap, ◌∙◌, subst, Option}
-use Rattle.qcow2_image.proofs.Common.{BackingView, StorageView, Bytes, HeaderFields, cluster_size, Pending, SafeStep, SafeThroughout, GivenBytes, EffectOnSound, UngivenStay, KeepsFormat, state_in, view_in, known_in, Qcow2, Prepared, backing_bytes, below_of, ImageInvariant, pending_in, abstract_of, leaked_in, stops_of}
+use Rattle.qcow2_image.proofs.Common.{BackingView, StorageView, Bytes, HeaderFields, cluster_size, Pending, SafeStep, SafeThroughout, GivenBytes, EffectOnSound, UngivenStay, KeepsFormat, state_in, view_in, known_in, Qcow2, Prepared, backing_bytes, below_of, ImageInvariant, pending_in, abstract_of, leaked_in, stops_of, Mappings}
 use Rattle.qcow2_image.proofs.Call.Answered.{same_setting}
 use Rattle.qcow2_image.proofs.Images.Sound.{IsOnly, pending_is}
+use Rattle.qcow2_image.proofs.Images.Places.{inside_of}
 
-module _ {S F : Type 0} (view : S → StorageView) (backing : F → BackingView) (old new : Qcow2 S F) (out out' : List (Option Prepared)) where
+module _ {S F : Type 0} (view : S → StorageView) (backing : F → BackingView) (old new : Qcow2 S F) (out out' : Mappings) where
   -- From sound to sound, with what this gives. What was pending beyond what mappings hold and what is to be freed stays.
   pub record Steps (given : Bytes → List GivenBytes) (p : Pending) : Type 0 where
     pub sound : ImageInvariant view backing p new out'
@@ -19,7 +20,7 @@ module _ {S F : Type 0} (view : S → StorageView) (backing : F → BackingView)
 
   module _ (given : Bytes → List GivenBytes) (p : Pending) (steps : Steps given p) where
     pending_now : p ≡ pending_in view backing new out'
-    pending_now = pending_is view backing new out' p steps.safe_step.sound steps.sound.inside steps.only
+    pending_now = pending_is view backing new out' p steps.safe_step.sound (inside_of steps.sound) steps.only
 
     pub stepped_sound : ImageInvariant view backing (pending_in view backing new out') new out'
     stepped_sound = subst (λ (q : Pending). ImageInvariant view backing q new out') pending_now steps.sound

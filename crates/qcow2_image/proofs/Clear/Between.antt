@@ -1,12 +1,13 @@
 -- The clusters between two offsets are cleared, as a part of a call.
 use Rattle.std.proofs.Common.{◌≡◌, ◌+◌, ◌-◌, ◌*◌, ◌/◌, ◌%◌, ◌<◌, ◌≤◌, ◌∷◌, ◌++◌, ◌↔◌, inl, inr, ℕ, suc, Bool, true, false, List, [], Option, Some, None, refl, sym, ap, ◌∙◌, subst, arith, cond, mul_assoc, IsSome, IsTrue}
 use Rattle.std.proofs.Math.Nat.{mul-le-mul_right}
-use Rattle.qcow2_image.proofs.Common.{slice_get, cases_eq, cases_lt, div-add-mod', div-mul-add, mod-mul-add, mod_below, pow_pos, BackingView, StorageView, Bytes, HeaderFields, cluster_size, entries_per_cluster, cover, IsInReach, old_data_run, Guest, Setting, guest_of, EffectOnSound, cleared, with_disk, Pending, Disk, table_at, given_shown, guest_at, works_less, works_then, Sizes-from, l2_pins, ClustersToFreeEntry, contents_in, known_in, IsEntryAt, own_cluster, InternalCall, ClearsImageCovers, ClearsPart, ClearsTable, IsUnderMapping, IsClearable, MayClear, ReadsAll, ReadsDropped, cover_once_cleared, given_bytes_between, is_between, listed_by, setting_of, shown_by, AreCleared, ClearMode, Qcow2, Prepared, l1_index_of, l2_index_of, IsPending, IsReadyWith, abstract_of, disk_of, listed_run, pending_in, pins_by, MovesTables, CoversStay, HoldsTable}
+use Rattle.qcow2_image.proofs.Common.{slice_get, cases_eq, cases_lt, div-add-mod', div-mul-add, mod-mul-add, mod_below, pow_pos, BackingView, StorageView, Bytes, HeaderFields, cluster_size, entries_per_cluster, cover, IsInReach, old_data_run, Guest, Setting, guest_of, EffectOnSound, cleared, with_disk, Pending, Disk, table_at, given_shown, guest_at, works_less, works_then, Sizes-from, l2_pins, ClustersToFreeEntry, contents_in, known_in, IsEntryAt, own_cluster, InternalCall, ClearsImageCovers, ClearsPart, ClearsTable, IsUnderMapping, IsClearable, MayClear, ReadsAll, ReadsDropped, cover_once_cleared, given_bytes_between, is_between, listed_by, setting_of, shown_by, AreCleared, ClearMode, Qcow2, Prepared, l1_index_of, l2_index_of, IsPending, IsReadyWith, abstract_of, disk_of, listed_run, pending_in, pins_by, MovesTables, CoversStay, HoldsTable, Mappings}
 use Rattle.qcow2_image.proofs.Images.Apart.{pins_own}
 use Rattle.qcow2_image.proofs.Clear.Cleared.{all_cleared}
 use Rattle.qcow2_image.proofs.Images.Moved.{file_step_then}
 use Rattle.qcow2_image.proofs.Prepare.RefusedAsPrepared.{in_same, keeper}
 use Rattle.qcow2_image.proofs.Images.ClusterMappings.{over_all_at}
+use Rattle.qcow2_image.proofs.Images.Places.{alone_of}
 
 -- ---- numbers
 module _ (size row : ℕ) (some : 0 < size) where
@@ -129,7 +130,7 @@ entry_behind h known table first n k i at here fits lt =
     (record { real = at.real; place = at.place; within = subst (λ x. x < row) (sym column) (omega (arith, fits, lt)) }, above ∙ here)
 
 -- ---- a part before
-module _ {S F : Type 0} (view : S → StorageView) (backing : F → BackingView) (out : List (Option Prepared)) where
+module _ {S F : Type 0} (view : S → StorageView) (backing : F → BackingView) (out : Mappings) where
   pub covers_before : (how : ClearMode) (from to : ℕ) (h h' h'' : HeaderFields) (known known' known'' : Bytes) → MovesTables h h' → CoversStay h known h' known' → ClearsImageCovers how from to h' known' h'' known'' → ClearsImageCovers how from to h known h'' known''
   covers_before how from to h h' h'' known known' known'' format same covers g =
       let there : cover h' known' g ≡ cover h known g = sym (same g) in
@@ -140,19 +141,19 @@ module _ {S F : Type 0} (view : S → StorageView) (backing : F → BackingView)
     same_setting : setting_of view backing mid ≡ setting_of view backing old
     same_setting = first.works.setting
 
-    cleared_same : cleared (setting_of view backing mid) (disk_of view backing mid) (shown_by how) from to ≡ cleared (setting_of view backing old) (disk_of view backing old) (shown_by how) from to
-    cleared_same = ap (λ (x : Setting). cleared x (disk_of view backing mid) (shown_by how) from to) same_setting ∙ ap (λ (d : Disk). cleared (setting_of view backing old) d (shown_by how) from to) (ap (λ (g : Guest). g.disk) first.same)
+    cleared_same : cleared (setting_of view backing mid) (disk_of view backing out.place mid) (shown_by how) from to ≡ cleared (setting_of view backing old) (disk_of view backing out.place old) (shown_by how) from to
+    cleared_same = ap (λ (x : Setting). cleared x (disk_of view backing out.place mid) (shown_by how) from to) same_setting ∙ ap (λ (d : Disk). cleared (setting_of view backing old) d (shown_by how) from to) (ap (λ (g : Guest). g.disk) first.same)
 
     pub clears_after : ClearsPart view backing how from to mid new out → ClearsPart view backing how from to old new out
     clears_after part =
         let v = abstract_of view backing old out in
         let w = abstract_of view backing mid out in
         let x = abstract_of view backing new out in
-        let given_bytes = given_bytes_between view backing old how from to in
+        let given_bytes = given_bytes_between view backing out.place old how from to in
         record {
           works = works_then v w x given_bytes [] first.sound (works_less v w [] given_bytes [] (λ o value never. absurd never) (λ g u. tt) first.works) (subst (λ gs. EffectOnSound w x gs []) (ap (λ (d : Disk). given_shown d from to ∷ []) cleared_same) part.works);
           sound = part.sound;
-          shows = part.shows ∙ ap (λ (d : Disk). with_disk (guest_of w) d) cleared_same ∙ ap (λ (g : Guest). with_disk g (cleared (setting_of view backing old) (disk_of view backing old) (shown_by how) from to)) first.same;
+          shows = part.shows ∙ ap (λ (d : Disk). with_disk (guest_of w) d) cleared_same ∙ ap (λ (g : Guest). with_disk g (cleared (setting_of view backing old) (disk_of view backing out.place old) (shown_by how) from to)) first.same;
           header = file_step_then old.file.header.fields mid.file.header.fields new.file.header.fields first.header part.header;
           covers = covers_before how from to old.file.header.fields mid.file.header.fields new.file.header.fields (known_in view old.file) (known_in view mid.file) (known_in view new.file) first.header first.covers part.covers;
           recorded = part.recorded;
@@ -208,7 +209,7 @@ module _ {S F : Type 0} (view : S → StorageView) (backing : F → BackingView)
     fits = row_within (cluster_size h) (entries_per_cluster h) some_size from to whole.begins whole.ends lt some_row whole.within
 
     all_read : (list ≡ listed_by how h known guest count) × ((j : ℕ) → j < count → IsInReach (cover h known (guest + j)))
-    all_read = reads p (l1_index_of h from) found.sound.alone found.sound.file holds.entry refl fits
+    all_read = reads p (l1_index_of h from) (alone_of found.sound) found.sound.file holds.entry refl fits
 
     may : MayClear view backing how table (l1_index_of h from) (l2_index_of h from) count mid out p
     may = record {
@@ -266,12 +267,12 @@ module _ {S F : Type 0} (view : S → StorageView) (backing : F → BackingView)
           same_table = sym (same_row keeps.other.guest) ∙ in_same view backing mid (pending_in view backing mid out) out found.sound from table holds keeps.other keeps.other.table keeps.keeps (found.sound.ready keeps.place keeps.other keeps.is_out).mapped ∙ same_row from;
         }
 
-    under_as : (r : Prepared) (place : ℕ) → slice_get out place ≡ Some (Some r) → (x : Option ℕ) → r.table ≡ x → IsSome x → l1_index_of old.file.header.fields r.guest ≡ l1_index_of old.file.header.fields from
-        → IsReadyWith mid.file.header.fields (known_in view mid.file) (contents_in view mid.file) r x → 0 < l2_pins mid.file.caches table
+    under_as : (r : Prepared) (place : ℕ) → slice_get out.slots place ≡ Some (Some r) → (x : Option ℕ) → r.table ≡ x → IsSome x → l1_index_of old.file.header.fields r.guest ≡ l1_index_of old.file.header.fields from
+        → IsReadyWith mid.file.header.fields out.place (known_in view mid.file) (contents_in view mid.file) r x → 0 < l2_pins mid.file.caches table
     under_as r place there None is some rows ready = absurd (let e : false ≡ true = some in cc)
     under_as r place there (Some u) is some rows ready =
         let h = mid.file.header.fields in
-        let pending : IsPending mid.file.header.fields (known_in view mid.file) (contents_in view mid.file) r u = ready in
+        let pending : IsPending mid.file.header.fields out.place (known_in view mid.file) (contents_in view mid.file) r u = ready in
         let row : l1_index_of mid.file.header.fields r.guest ≡ l1_index_of mid.file.header.fields from = same_row r.guest ∙ rows ∙ sym (same_row from) in
         let places : u * cluster_size mid.file.header.fields ≡ table * cluster_size mid.file.header.fields = sym pending.named.place ∙ ap (table_at mid.file.header.fields (known_in view mid.file)) row ∙ holds.entry.place in
         let tables : u ≡ table = sym (own_cluster h.cluster_bits u) ∙ ap (λ o. o / cluster_size mid.file.header.fields) places ∙ own_cluster h.cluster_bits table in

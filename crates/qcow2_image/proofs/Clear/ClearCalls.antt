@@ -1,6 +1,6 @@
 -- Clearing as a call: it succeeds, or is refused and perhaps marked as failed.
 use Rattle.std.proofs.Common.{◌≡◌, ◌⊎◌, ◌+◌, ◌-◌, ◌<◌, ◌≤◌, ◌∷◌, ◌&&◌, inl, inr, ℕ, Bool, true, false, List, [], Option, refl, sym, ap, ◌∙◌, subst, arith, min, cond, IsTrue, IsErr, IsErrAnd, Result, Ok, Err, Some, None, nat_lt}
-use Rattle.qcow2_image.proofs.Common.{IfSome, MatchOption, not, option_or, pow_pos, cases_lt, cond-true, cond-false, le-ltb, lt-ltb, fun_ext, BackingView, StorageView, HeaderFields, cluster_size, entries_per_cluster, Value, known_byte, Bytes, laid_over, AbstractImage, Setting, guest_of, Clearing, to_backing, IsRefusalByFault, IsSame, Refusal, storage, another, EffectOnSound, RefusedEffect, cleared, with_disk, Disk, given_shown, answered, touched_to, GivenBytes, Sizes-from, works_less, works_then, laid_outside, ImageError, contents_in, known_in, EndsFreeing, RefusedCall, InternalCall, refusal_of, Clears, ClearsImageCovers, ClearsPart, IsUnderMapping, IsClearable, RefusesUngiven, from_in, given_bytes_between, all_given_by_clear, needs_zero_entries, refuses_to_clear, rounds_past, setting_of, shown_by, to_in, ClearMode, Qcow2, Prepared, number_of, lacks_data_file, is_failed, is_writable, size_of, has_noted_change, ImageInvariant, abstract_of, disk_of, pending_in, passes, refuse_if, MovesTables, CoversStay}
+use Rattle.qcow2_image.proofs.Common.{IfSome, MatchOption, not, option_or, pow_pos, cases_lt, cond-true, cond-false, le-ltb, lt-ltb, fun_ext, BackingView, StorageView, HeaderFields, cluster_size, entries_per_cluster, Value, known_byte, Bytes, laid_over, AbstractImage, Setting, guest_of, Clearing, to_backing, IsRefusalByFault, IsSame, Refusal, storage, another, EffectOnSound, RefusedEffect, cleared, with_disk, Disk, given_shown, answered, touched_to, GivenBytes, Sizes-from, works_less, works_then, laid_outside, ImageError, contents_in, known_in, EndsFreeing, RefusedCall, InternalCall, refusal_of, Clears, ClearsImageCovers, ClearsPart, IsUnderMapping, IsClearable, RefusesUngiven, from_in, given_bytes_between, all_given_by_clear, needs_zero_entries, refuses_to_clear, rounds_past, setting_of, shown_by, to_in, ClearMode, Qcow2, Prepared, number_of, lacks_data_file, is_failed, is_writable, size_of, has_noted_change, ImageInvariant, abstract_of, disk_of, pending_in, passes, refuse_if, MovesTables, CoversStay, Mappings}
 use Rattle.qcow2_alloc.specs.declared.error.ImageError.TheVariants as I
 use Rattle.qcow2_image.proofs.Call.Marked.{MayMark}
 use Rattle.qcow2_image.proofs.Call.Called.{Quietly, listed, refuses_early, works_none}
@@ -9,6 +9,7 @@ use Rattle.qcow2_image.proofs.Call.CallOutcomes.{outcome_answered}
 use Rattle.qcow2_image.proofs.Clear.Between.{clears_after, whole_format}
 use Rattle.qcow2_image.proofs.Clear.Ranges.{from_whole, to_whole, to_within}
 use Rattle.qcow2_image.proofs.Images.Sizes.{disk_size}
+use Rattle.qcow2_image.specs.declared.mapping.Place.{Place}
 
 -- ---- what a check of the range answered
 pub err_is : {A : Type 0} {e : ImageError} (r : Result A ImageError) → IsErr r × IsErrAnd r (λ x. x ≡ e) → r ≡ Err e
@@ -72,19 +73,19 @@ refuses_more v w gs e still r = record {
 pub clears_early : {S F : Type 0} (view : S → StorageView) (backing : F → BackingView) (old : Qcow2 S F) (how : ClearMode) (offset n : ℕ) (x : ImageError) → refuses_to_clear old offset n how ≡ Some x → Clears view backing how old old offset n (Err x)
 clears_early view backing old how offset n x is = λ out.
     let v = abstract_of view backing old out in
-    refuses_more v v (all_given_by_clear view backing old how offset n) (refusal_of x) _
+    refuses_more v v (all_given_by_clear view backing out.place old how offset n) (refusal_of x) _
     (refuses_early v (refusal_of x) (none_fails (is_failed old) (lacks_data_file old) (not (is_writable old)) (passes (size_of old) offset n) (needs_zero_entries how && nat_lt old.file.header.fields.version 3) (rounds_past (cluster_size old.file.header.fields) (size_of old) offset n) x is))
 
 -- nor did that give anything
 pub ungiven_early : {S F : Type 0} (view : S → StorageView) (backing : F → BackingView) (old : Qcow2 S F) (x : ImageError) → RefusesUngiven view backing old old x
 ungiven_early view backing old x none out = refuses_early (abstract_of view backing old out) (refusal_of x) (λ is. none (subst IsRefusalByFault (sym is) tt))
 
-pub under_before : (h h' : HeaderFields) (offset : ℕ) (out : List (Option Prepared)) → MovesTables h h' → IsUnderMapping h' offset out → IsUnderMapping h offset out
+pub under_before : (h h' : HeaderFields) (offset : ℕ) (out : Mappings) → MovesTables h h' → IsUnderMapping h' offset out → IsUnderMapping h offset out
 under_before h h' offset out format under =
     let u = subst (λ (x : HeaderFields). IsUnderMapping x offset out) format under in
     record { place = u.place; other = u.other; is_out = u.is_out; keeps_table = u.keeps_table; same_table = u.same_table }
 
-pub under_after : (h h' : HeaderFields) (offset : ℕ) (out : List (Option Prepared)) → MovesTables h h' → IsUnderMapping h offset out → IsUnderMapping h' offset out
+pub under_after : (h h' : HeaderFields) (offset : ℕ) (out : Mappings) → MovesTables h h' → IsUnderMapping h offset out → IsUnderMapping h' offset out
 under_after h h' offset out format u =
     subst (λ (x : HeaderFields). IsUnderMapping x offset out) (sym format) (record { place = u.place; other = u.other; is_out = u.is_out; keeps_table = u.keeps_table; same_table = u.same_table })
 
@@ -98,31 +99,31 @@ module _ {S F : Type 0} (view : S → StorageView) (backing : F → BackingView)
   abbrev to : ℕ
   to = to_in old offset n
 
-  abbrev given_bytes : List GivenBytes
-  given_bytes = all_given_by_clear view backing old how offset n
+  abbrev given_bytes : Place → List GivenBytes
+  given_bytes place = all_given_by_clear view backing place old how offset n
 
-  module _ (out : List (Option Prepared)) (sound : ImageInvariant view backing (pending_in view backing old out) old out) where
+  module _ (out : Mappings) (sound : ImageInvariant view backing (pending_in view backing old out) old out) where
     abbrev v : AbstractImage
     v = abstract_of view backing old out
 
-    size_is : size_of old ≡ (disk_of view backing old).size
+    size_is : size_of old ≡ (disk_of view backing out.place old).size
     size_is = disk_size view backing old out sound
 
-    to_shown : to ≡ touched_to (cluster_size old.file.header.fields) (disk_of view backing old).size offset n
+    to_shown : to ≡ touched_to (cluster_size old.file.header.fields) (disk_of view backing out.place old).size offset n
     to_shown = ap (λ size. touched_to (cluster_size old.file.header.fields) size offset n) size_is
 
-    given_bytes_are : given_bytes_between view backing old how from to ≡ given_bytes
-    given_bytes_are = ap (λ end. given_shown (cleared (setting_of view backing old) (disk_of view backing old) (shown_by how) from end) from end ∷ []) to_shown
+    given_bytes_are : given_bytes_between view backing out.place old how from to ≡ (given_bytes out.place)
+    given_bytes_are = ap (λ end. given_shown (cleared (setting_of view backing old) (disk_of view backing out.place old) (shown_by how) from end) from end ∷ []) to_shown
 
-    disk_is : cleared (setting_of view backing old) (disk_of view backing old) (shown_by how) from to ≡ cleared (setting_of view backing old) (disk_of view backing old) (shown_by how) from (touched_to (cluster_size old.file.header.fields) (disk_of view backing old).size offset n)
-    disk_is = ap (cleared (setting_of view backing old) (disk_of view backing old) (shown_by how) from) to_shown
+    disk_is : cleared (setting_of view backing old) (disk_of view backing out.place old) (shown_by how) from to ≡ cleared (setting_of view backing old) (disk_of view backing out.place old) (shown_by how) from (touched_to (cluster_size old.file.header.fields) (disk_of view backing out.place old).size offset n)
+    disk_is = ap (cleared (setting_of view backing old) (disk_of view backing out.place old) (shown_by how) from) to_shown
 
-    answer_some : from < to → (from, min to (offset + n) - from) ≡ answered (cluster_size old.file.header.fields) (disk_of view backing old).size offset n
+    answer_some : from < to → (from, min to (offset + n) - from) ≡ answered (cluster_size old.file.header.fields) (disk_of view backing out.place old).size offset n
     answer_some lt =
         ap (λ l. (from, l)) (sym (cond-true (nat_lt from to) (min to (offset + n) - from) 0 (lt-ltb from to lt)))
         ∙ ap (λ end. (from, (cond (nat_lt from end) (min end (offset + n) - from) 0))) to_shown
 
-    answer_none : to ≤ from → (from, 0) ≡ answered (cluster_size old.file.header.fields) (disk_of view backing old).size offset n
+    answer_none : to ≤ from → (from, 0) ≡ answered (cluster_size old.file.header.fields) (disk_of view backing out.place old).size offset n
     answer_none le =
         ap (λ l. (from, l)) (sym (cond-false (nat_lt from to) (min to (offset + n) - from) 0 (le-ltb from to le)))
         ∙ ap (λ end. (from, (cond (nat_lt from end) (min end (offset + n) - from) 0))) to_shown
@@ -130,16 +131,16 @@ module _ {S F : Type 0} (view : S → StorageView) (backing : F → BackingView)
   -- nothing is touched
   pub clears_nothing : to ≤ from → Clears view backing how old old offset n (Ok (from, 0))
   clears_nothing le = λ out.
-      outcome_answered view backing old old out out given_bytes (λ sound. works_less (v out sound) (v out sound) [] given_bytes [] (λ o x never. absurd never) (λ g u. tt) (works_none (v out sound) sound)) (λ sound. sound) refl usable
-      (λ sound. (answer_none out sound le, ap (λ d. with_disk (guest_of (v out sound)) d) (sym (none_cleared (setting_of view backing old) (disk_of view backing old) (shown_by how) from to le) ∙ disk_is out sound)))
+      outcome_answered view backing old old out out (given_bytes out.place) (λ sound. works_less (v out sound) (v out sound) [] (given_bytes out.place) [] (λ o x never. absurd never) (λ g u. tt) (works_none (v out sound) sound)) (λ sound. sound) refl usable
+      (λ sound. (answer_none out sound le, ap (λ d. with_disk (guest_of (v out sound)) d) (sym (none_cleared (setting_of view backing old) (disk_of view backing out.place old) (shown_by how) from to le) ∙ disk_is out sound)))
 
   -- ---- it begins, and clusters are cleared
-  module _ (begun entries : Qcow2 S F) (quiet : (out : List (Option Prepared)) → ImageInvariant view backing (pending_in view backing old out) old out → Quietly view backing out old begun) where
-    pub begins : (out : List (Option Prepared)) → ImageInvariant view backing (pending_in view backing old out) old out → InternalCall view backing old begun out
+  module _ (begun entries : Qcow2 S F) (quiet : (out : Mappings) → ImageInvariant view backing (pending_in view backing old out) old out → Quietly view backing out old begun) where
+    pub begins : (out : Mappings) → ImageInvariant view backing (pending_in view backing old out) old out → InternalCall view backing old begun out
     begins out sound = stays_kept view backing out old begun sound (listed view backing out old begun (quiet out) sound)
 
     -- the touched range is one of whole clusters
-    pub whole_in : (out : List (Option Prepared)) → InternalCall view backing old begun out → (IsTrue (needs_zero_entries how) → 3 ≤ old.file.header.fields.version) → IsClearable begun.file.header.fields how (from_in old offset n) (to_in old offset n)
+    pub whole_in : (out : Mappings) → InternalCall view backing old begun out → (IsTrue (needs_zero_entries how) → 3 ≤ old.file.header.fields.version) → IsClearable begun.file.header.fields how (from_in old offset n) (to_in old offset n)
     whole_in out call version =
         let h = old.file.header.fields in
         let h' = begun.file.header.fields in
@@ -151,30 +152,30 @@ module _ {S F : Type 0} (view : S → StorageView) (backing : F → BackingView)
 
     -- that was refused
     refused_ungiven : (e : ImageError) (marked : Bool) → number_of entries ≡ number_of old → MayMark e (is_failed entries) marked → (e ≡ I.Memory → IsTrue (has_noted_change entries) → IsTrue marked)
-        → ((out : List (Option Prepared)) → InternalCall view backing old begun out → RefusedCall view backing begun entries out e) → (out : List (Option Prepared))
+        → ((out : Mappings) → InternalCall view backing old begun out → RefusedCall view backing begun entries out e) → (out : Mappings)
         → RefusedEffect (abstract_of view backing old out) (abstract_of view backing (record entries { is_failed = marked }) out) [] [] (refusal_of e) (IsSame (abstract_of view backing old out) (abstract_of view backing (record entries { is_failed = marked }) out))
     refused_ungiven e marked number marks memory refused out = refuses_left view backing out old usable entries marked number e marks memory (λ sound. refused_then view backing out old begun entries (begins out sound) e (refused out (begins out sound)))
 
     pub ungiven_refused : (e : ImageError) (marked : Bool) → number_of entries ≡ number_of old → MayMark e (is_failed entries) marked → (e ≡ I.Memory → IsTrue (has_noted_change entries) → IsTrue marked)
-        → ((out : List (Option Prepared)) → InternalCall view backing old begun out → RefusedCall view backing begun entries out e) → RefusesUngiven view backing old (record entries { is_failed = marked }) e
+        → ((out : Mappings) → InternalCall view backing old begun out → RefusedCall view backing begun entries out e) → RefusesUngiven view backing old (record entries { is_failed = marked }) e
     ungiven_refused e marked number marks memory refused none out = refused_ungiven e marked number marks memory refused out
 
     pub clear_refused : (e : ImageError) (marked : Bool) → number_of entries ≡ number_of old → MayMark e (is_failed entries) marked → (e ≡ I.Memory → IsTrue (has_noted_change entries) → IsTrue marked)
-        → ((out : List (Option Prepared)) → InternalCall view backing old begun out → RefusedCall view backing begun entries out e) → Clears view backing how old (record entries { is_failed = marked }) offset n (Err e)
+        → ((out : Mappings) → InternalCall view backing old begun out → RefusedCall view backing begun entries out e) → Clears view backing how old (record entries { is_failed = marked }) offset n (Err e)
     clear_refused e marked number marks memory refused = λ out.
-        refuses_more (abstract_of view backing old out) (abstract_of view backing (record entries { is_failed = marked }) out) given_bytes (refusal_of e) _
+        refuses_more (abstract_of view backing old out) (abstract_of view backing (record entries { is_failed = marked }) out) (given_bytes out.place) (refusal_of e) _
         (refused_ungiven e marked number marks memory refused out)
 
-    module _ (parts : (out : List (Option Prepared)) → InternalCall view backing old begun out → ClearsPart view backing how from to begun entries out) (freed : Qcow2 S F) (r : Result (Unit {0}) ImageError)
-        (ends : (out : List (Option Prepared)) → ImageInvariant view backing (pending_in view backing entries out) entries out → EndsFreeing view backing entries freed out r) (number : number_of freed ≡ number_of old) where
-      pub part : (out : List (Option Prepared)) → ImageInvariant view backing (pending_in view backing old out) old out → ClearsPart view backing how from to old entries out
+    module _ (parts : (out : Mappings) → InternalCall view backing old begun out → ClearsPart view backing how from to begun entries out) (freed : Qcow2 S F) (r : Result (Unit {0}) ImageError)
+        (ends : (out : Mappings) → ImageInvariant view backing (pending_in view backing entries out) entries out → EndsFreeing view backing entries freed out r) (number : number_of freed ≡ number_of old) where
+      pub part : (out : Mappings) → ImageInvariant view backing (pending_in view backing old out) old out → ClearsPart view backing how from to old entries out
       part out sound = clears_after view backing out old begun entries how from to (begins out sound) (parts out (begins out sound))
 
-      part_works : (out : List (Option Prepared)) (sound : ImageInvariant view backing (pending_in view backing old out) old out) → EffectOnSound (abstract_of view backing old out) (abstract_of view backing entries out) given_bytes []
+      part_works : (out : Mappings) (sound : ImageInvariant view backing (pending_in view backing old out) old out) → EffectOnSound (abstract_of view backing old out) (abstract_of view backing entries out) (given_bytes out.place) []
       part_works out sound = subst (λ gs. EffectOnSound (abstract_of view backing old out) (abstract_of view backing entries out) gs []) (given_bytes_are out sound) (part out sound).works
 
       -- the mappings of guest clusters afterwards
-      pub clear_covers : r ≡ Ok tt → (out : List (Option Prepared)) → ImageInvariant view backing (pending_in view backing old out) old out
+      pub clear_covers : r ≡ Ok tt → (out : Mappings) → ImageInvariant view backing (pending_in view backing old out) old out
           → ClearsImageCovers how (from_in old offset n) (to_in old offset n) old.file.header.fields (known_in view old.file) freed.file.header.fields (known_in view freed.file)
       clear_covers ok out sound =
           let it = part out sound in
@@ -188,8 +189,8 @@ module _ {S F : Type 0} (view : S → StorageView) (backing : F → BackingView)
           let e = abstract_of view backing entries out in
           let f = abstract_of view backing freed out in
           let call : ImageInvariant view backing (pending_in view backing old out) old out → InternalCall view backing entries freed out = λ sound. subst (EndsFreeing view backing entries freed out) ok (ends out (part out sound).sound) in
-          outcome_answered view backing old freed out out given_bytes
-          (λ sound. works_then a e f given_bytes [] (part out sound).sound (part_works out sound) (works_less e f [] given_bytes [] (λ o x never. absurd never) (λ g u. tt) (call sound).works))
+          outcome_answered view backing old freed out out (given_bytes out.place)
+          (λ sound. works_then a e f (given_bytes out.place) [] (part out sound).sound (part_works out sound) (works_less e f [] (given_bytes out.place) [] (λ o x never. absurd never) (λ g u. tt) (call sound).works))
           (λ sound. (call sound).sound) number usable
           (λ sound. (answer_some out sound lt, (call sound).same ∙ (part out sound).shows ∙ ap (λ d. with_disk (guest_of a) d) (disk_is out sound)))
 
@@ -204,7 +205,7 @@ module _ {S F : Type 0} (view : S → StorageView) (backing : F → BackingView)
           record {
             acts = record {
               number = number;
-              works = λ sound. works_then a e f given_bytes [] (part out sound).sound (part_works out sound) (works_less e f [] given_bytes [] (λ o y never. absurd never) (λ g u. tt) ((ended sound).0.acts.works (part out sound).sound));
+              works = λ sound. works_then a e f (given_bytes out.place) [] (part out sound).sound (part_works out sound) (works_less e f [] (given_bytes out.place) [] (λ o y never. absurd never) (λ g u. tt) ((ended sound).0.acts.works (part out sound).sound));
               rests = λ was. absurd (let no : true ≡ false = sym was ∙ usable in cc);
             };
             answer = λ sound. inr ((ended sound).1, failed sound);
@@ -212,7 +213,7 @@ module _ {S F : Type 0} (view : S → StorageView) (backing : F → BackingView)
           }
 
       -- it was a fault
-      pub fault_interruption : (x : ImageError) → r ≡ Err x → (out : List (Option Prepared)) → ImageInvariant view backing (pending_in view backing old out) old out → IsRefusalByFault (refusal_of x)
+      pub fault_interruption : (x : ImageError) → r ≡ Err x → (out : Mappings) → ImageInvariant view backing (pending_in view backing old out) old out → IsRefusalByFault (refusal_of x)
       fault_interruption x refused out sound = (subst (EndsFreeing view backing entries freed out) refused (ends out (part out sound).sound)).1
 
       pub ungiven_interruption : (x : ImageError) → r ≡ Err x → RefusesUngiven view backing old freed x

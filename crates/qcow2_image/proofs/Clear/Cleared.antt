@@ -1,7 +1,7 @@
 -- Entries of a cached table are cleared one after another, and the clusters that they named wait to be freed.
 use Rattle.std.proofs.Common.{◌≡◌, ◌+◌, ◌-◌, ◌*◌, ◌^◌, ◌<◌, ◌≤◌, ◌∷◌, ◌++◌, inl, inr, ℕ, zero, suc, true, false, List, [], Option, refl, sym, ap, ◌∙◌, subst, arith, min, IsSome, IsTrue, nat_le, nat_lt}
 use Rattle.std.proofs.Math.Nat.{mul-le-mul_right}
-use Rattle.qcow2_image.proofs.Common.{cases_eq, cases_lt, and_from, and_left, and_right, cond-true, cond-false, le-leb, lt-leb, lt-ltb, le-ltb, pow_pos, pow_mono, BackingView, StorageView, Bytes, HeaderFields, cluster_size, cover, IsInReach, old_data_run, Setting, EffectOnSound, cleared, Pending, Disk, disk, uncovered, zeroed_between, ClearsRange, MapsEntry, MapsInTurn, given_shown, DriverState, guest_at, GivenBytes, entries_safe_throughout, KeepsPinsAndNotes, MetadataCaches, ClustersToFreeEntry, state_in, view_in, contents_in, known_in, IsEntryAt, l2_at, AreCleared, ClearsImageCovers, ClearsEntry, ClearsPart, ClearsTable, MayClear, cover_once_cleared, given_bytes_between, is_between, is_cleared, listed_by, setting_of, shown_by, with_caches, ClearMode, Zeros, KeptZeros, Qcow2, Prepared, ImageInvariant, abstract_of, backing_bytes, disk_of, listed_run, of_data, of_tables, pending_in, to_free, IsUngiven, file_invariant_of}
+use Rattle.qcow2_image.proofs.Common.{cases_eq, cases_lt, and_from, and_left, and_right, cond-true, cond-false, le-leb, lt-leb, lt-ltb, le-ltb, pow_pos, pow_mono, BackingView, StorageView, Bytes, HeaderFields, cluster_size, cover, IsInReach, old_data_run, Setting, EffectOnSound, cleared, Pending, Disk, disk, uncovered, zeroed_between, ClearsRange, MapsEntry, MapsInTurn, given_shown, DriverState, guest_at, GivenBytes, entries_safe_throughout, KeepsPinsAndNotes, MetadataCaches, ClustersToFreeEntry, state_in, view_in, contents_in, known_in, IsEntryAt, l2_at, AreCleared, ClearsImageCovers, ClearsEntry, ClearsPart, ClearsTable, MayClear, cover_once_cleared, given_bytes_between, is_between, is_cleared, listed_by, setting_of, shown_by, with_caches, ClearMode, Zeros, KeptZeros, Qcow2, Prepared, ImageInvariant, abstract_of, backing_bytes, disk_of, listed_run, of_data, of_tables, pending_in, to_free, IsUngiven, file_invariant_of, Mappings, Image}
 use Rattle.qcow2_laws.proofs.MappedRanges.{clusters_in_turn_are_a_range}
 use Rattle.qcow2_alloc.proofs.CachePins.{marks_none, marks_then}
 use Rattle.qcow2_image.specs.declared.discarding.ClearMode.TheVariants.{Uncovered}
@@ -12,6 +12,7 @@ use Rattle.qcow2_image.proofs.Commit.Committing.{listed_tables}
 use Rattle.qcow2_image.proofs.Open.Reftables.{reftable_still}
 use Rattle.qcow2_image.proofs.Images.Sound.{free_more}
 use Rattle.qcow2_image.proofs.Images.UngivenCovers.{ungiven_stay}
+use Rattle.qcow2_image.proofs.Images.Places.{inside_of, from_image}
 
 -- what is listed is no table
 pub listed_no_table : (how : ClearMode) (h : HeaderFields) (known : Bytes) (first n k : ℕ) → to_free of_tables (listed_by how h known first n) k ≡ 0
@@ -25,7 +26,7 @@ listed_no_table how h known first (suc n) k =
 
 module _ {S F : Type 0} (view : S → StorageView) (backing : F → BackingView) where
   -- none is yet
-  none_cleared : (how : ClearMode) (row column : ℕ) (a : Qcow2 S F) (out : List (Option Prepared)) (p : Pending) → ImageInvariant view backing p a out → AreCleared view backing how row column 0 a a.file.caches out p
+  none_cleared : (how : ClearMode) (row column : ℕ) (a : Qcow2 S F) (out : Mappings) (p : Pending) → ImageInvariant view backing p a out → AreCleared view backing how row column 0 a a.file.caches out p
   none_cleared how row column a out p sound = record {
     now = p;
     sound_now = sound;
@@ -42,7 +43,7 @@ module _ {S F : Type 0} (view : S → StorageView) (backing : F → BackingView)
   }
 
   -- one more is
-  module _ (how : ClearMode) (t row column n : ℕ) (a : Qcow2 S F) (caches : MetadataCaches S) (out : List (Option Prepared)) (p : Pending) (may : MayClear view backing how t row column (suc n) a out p)
+  module _ (how : ClearMode) (t row column n : ℕ) (a : Qcow2 S F) (caches : MetadataCaches S) (out : Mappings) (p : Pending) (may : MayClear view backing how t row column (suc n) a out p)
       (so_far : AreCleared view backing how row column n a caches out p) (found : IsSome (l2_at caches t)) (marks : KeepsPinsAndNotes a.file.caches caches) (c : Qcow2 S F) (clears : ClearsEntry how t (column + n) (with_caches a caches) c) where
     abbrev h : HeaderFields
     h = a.file.header.fields
@@ -121,7 +122,7 @@ module _ {S F : Type 0} (view : S → StorageView) (backing : F → BackingView)
     clears_here : ClearsEntry how t (min (column + n) (2 ^ 64 - 1)) here c
     clears_here = subst (λ (x : Qcow2 S F). ClearsEntry how t (min (column + n) (2 ^ 64 - 1)) x c) first.rest clears
 
-    fewer : (out : List (Option Prepared)) (p : Pending) (row : ℕ) → MayClear view backing how t row column (suc n) a out p → MayClear view backing how t row column n a out p
+    fewer : (out : Mappings) (p : Pending) (row : ℕ) → MayClear view backing how t row column (suc n) a out p → MayClear view backing how t row column n a out p
     fewer out p row may = record {
       sound = may.sound;
       real = may.real;
@@ -135,13 +136,13 @@ module _ {S F : Type 0} (view : S → StorageView) (backing : F → BackingView)
     }
 
     -- the index isn't cut
-    index_is : (out : List (Option Prepared)) (p : Pending) (row : ℕ) → MayClear view backing how t row column (suc n) a out p → min (column + n) (2 ^ 64 - 1) ≡ column + n
+    index_is : (out : Mappings) (p : Pending) (row : ℕ) → MayClear view backing how t row column (suc n) a out p → min (column + n) (2 ^ 64 - 1) ≡ column + n
     index_is out p row may =
         let few : cluster_size a.file.header.fields ≤ 2 ^ 21 = pow_mono may.sound.file.caches.kept.kept.crash_invariant.top.header_reads.well_formed.in_range.cluster_bits.1 in
         let w = may.within in
         omega (arith, few, w)
 
-    clears_at : (out : List (Option Prepared)) (p : Pending) (row : ℕ) → MayClear view backing how t row column (suc n) a out p → ClearsEntry how t (column + n) here c
+    clears_at : (out : Mappings) (p : Pending) (row : ℕ) → MayClear view backing how t row column (suc n) a out p → ClearsEntry how t (column + n) here c
     clears_at out p row may = subst (λ i. ClearsEntry how t i here c) (index_is out p row may) clears_here
 
     pub first_next : ClearsTable view backing how t column (suc n) a c
@@ -158,7 +159,7 @@ module _ {S F : Type 0} (view : S → StorageView) (backing : F → BackingView)
     }
 
   -- ---- all are, and what they named is to be freed
-  module _ (how : ClearMode) (row column n : ℕ) (a : Qcow2 S F) (caches : MetadataCaches S) (out : List (Option Prepared)) (sound : ImageInvariant view backing (pending_in view backing a out) a out)
+  module _ (how : ClearMode) (row column n : ℕ) (a : Qcow2 S F) (caches : MetadataCaches S) (out : Mappings) (sound : ImageInvariant view backing (pending_in view backing a out) a out)
       (all : AreCleared view backing how row column n a caches out (pending_in view backing a out)) (recorded : IsTrue caches.is_changed) where
     abbrev g : ℕ
     g = guest_at a.file.header.fields row column
@@ -191,9 +192,9 @@ module _ {S F : Type 0} (view : S → StorageView) (backing : F → BackingView)
     shown_over KeptZeros below d from to = zeroed_between d from to
 
     ranged : (x : ClearMode) → MapsInTurn (is_cleared x) g n s s' → ClearsRange g n s s' (shown_over x)
-    ranged Uncovered turn = clusters_in_turn_are_a_range.uncovered s s' g n sound.file.caches.kept.kept.crash_invariant sound.inside turn
-    ranged Zeros turn = clusters_in_turn_are_a_range.zeroed s s' g n sound.file.caches.kept.kept.crash_invariant sound.inside turn
-    ranged KeptZeros turn = clusters_in_turn_are_a_range.zeroed s s' g n sound.file.caches.kept.kept.crash_invariant sound.inside turn
+    ranged Uncovered turn = clusters_in_turn_are_a_range.uncovered s s' g n sound.file.caches.kept.kept.crash_invariant (inside_of sound) turn
+    ranged Zeros turn = clusters_in_turn_are_a_range.zeroed s s' g n sound.file.caches.kept.kept.crash_invariant (inside_of sound) turn
+    ranged KeptZeros turn = clusters_in_turn_are_a_range.zeroed s s' g n sound.file.caches.kept.kept.crash_invariant (inside_of sound) turn
 
     range : ClearsRange g n s s' (shown_over how)
     range = ranged how all.turn
@@ -203,8 +204,8 @@ module _ {S F : Type 0} (view : S → StorageView) (backing : F → BackingView)
     shown_is Zeros y d i j = refl
     shown_is KeptZeros y d i j = refl
 
-    disk_now : disk s'.known (backing_bytes view backing a.backing) ≡ cleared (setting_of view backing a) (disk_of view backing a) (shown_by how) from to
-    disk_now = range.shows (backing_bytes view backing a.backing) ∙ shown_is how (setting_of view backing a) (disk_of view backing a) from to
+    disk_now : disk s'.known (backing_bytes view backing a.backing) ≡ cleared (setting_of view backing a) (disk_of view backing Image a) (shown_by how) from to
+    disk_now = range.shows (backing_bytes view backing a.backing) ∙ shown_is how (setting_of view backing a) (disk_of view backing Image a) from to
 
     abbrev given : Bytes → List GivenBytes
     given below = given_shown (disk s'.known below) from to ∷ []
@@ -230,8 +231,7 @@ module _ {S F : Type 0} (view : S → StorageView) (backing : F → BackingView)
         file = file_invariant_of all.sound_now.file.honest all.sound_now.file.caches all.sound_now.file.named_blocks all.sound_now.file.room;
         l1_table = record { cluster = sound.l1_table.cluster; bits = sound.l1_table.bits; count = sound.l1_table.count; entries = sound.l1_table.entries };
         reftable = reftable_still view (record a.file { caches = caches }) final.file refl refl (λ k. refl) a.allocator all.sound_now.reftable;
-        inside = all.sound_now.inside;
-        alone = all.sound_now.alone;
+        stands = all.sound_now.stands;
         below = all.sound_now.below;
         ready = λ j r there. let ready = all.sound_now.ready j r there in record { own = ready.own; mapped = ready.mapped };
         pinned = all.sound_now.pinned;
@@ -252,8 +252,8 @@ module _ {S F : Type 0} (view : S → StorageView) (backing : F → BackingView)
       beside = ungiven_stay view a.file final.file (pending_in view backing a out) all.now sound.file.caches.kept.kept.crash_invariant range.safe_step.sound (given (backing_bytes view backing a.backing)) covers_beside;
     }
 
-    given_is : given (backing_bytes view backing a.backing) ≡ given_bytes_between view backing a how from to
-    given_is = ap (λ d. given_shown d from to ∷ []) disk_now
+    given_is : given (backing_bytes view backing a.backing) ≡ given_bytes_between view backing out.place a how from to
+    given_is = from_image (λ place. given (backing_bytes view backing a.backing) ≡ given_bytes_between view backing place a how from to) sound (ap (λ d. given_shown d from to ∷ []) disk_now)
 
     -- a guest cluster outside lies outside in bytes too
     module _ (c : ℕ) where
@@ -292,7 +292,7 @@ module _ {S F : Type 0} (view : S → StorageView) (backing : F → BackingView)
     all_cleared = record {
       works = subst (λ gs. EffectOnSound (abstract_of view backing a out) (abstract_of view backing final out) gs []) given_is (stepped_works view backing a final out out given all.now steps);
       sound = stepped_sound view backing a final out out given all.now steps;
-      shows = same_guest _ _ disk_now refl;
+      shows = same_guest _ _ (from_image (λ place. disk_of view backing place final ≡ cleared (setting_of view backing a) (disk_of view backing place a) (shown_by how) from to) sound disk_now) refl;
       header = refl;
       covers = covers_now;
       recorded = recorded;

@@ -1,6 +1,6 @@
 -- The contract of calls that clear a range: if one is refused at once, if no cluster is whole, and how one begins that clears some.
 use Rattle.std.proofs.Common.{◌≡◌, ◌*◌, ◌<◌, ◌≤◌, ◌&&◌, ◌∙◌, inl, inr, ℕ, Bool, true, false, List, Option, Some, None, Result, Ok, Err, refl, sym, ap, subst, arith, IsErr, IsErrAnd, IsTrue, nat_le, nat_lt}
-use Rattle.qcow2_image.proofs.Common.{IfSome, MatchOption, not, option_or, and_left, and_right, cases_lt, cond-false, le-ltb, lt-leb, BackingView, StorageView, Pending, Bytes, cover, cluster_size, HeaderFields, handed_on, known_in, ImageError, InternalCall, ClearsImageCovers, ClearsOrRefuses, ClearsPart, IsClearable, cover_once_cleared, from_in, is_between, needs_zero_entries, refuses_to_clear, rounds_past, to_in, ClearsSoundly, ClearsStep, FailsToClear, CountsImageFaults, IsNotOfStorage, SameFaults, IsSameImage, has_noted_change, lacks_data_file, is_failed, is_writable, size_of, ImageInvariant, pending_in, failed_after, passes, refuse_if, InternalStep, ClearMode, Qcow2, Prepared}
+use Rattle.qcow2_image.proofs.Common.{IfSome, MatchOption, not, option_or, and_left, and_right, cases_lt, cond-false, le-ltb, lt-leb, BackingView, StorageView, Pending, Bytes, cover, cluster_size, HeaderFields, handed_on, known_in, ImageError, InternalCall, ClearsImageCovers, ClearsOrRefuses, ClearsPart, IsClearable, cover_once_cleared, from_in, is_between, needs_zero_entries, refuses_to_clear, rounds_past, to_in, ClearsSoundly, ClearsStep, FailsToClear, CountsImageFaults, IsNotOfStorage, SameFaults, IsSameImage, has_noted_change, lacks_data_file, is_failed, is_writable, size_of, ImageInvariant, pending_in, failed_after, passes, refuse_if, InternalStep, ClearMode, Qcow2, Prepared, Mappings}
 use Rattle.qcow2_alloc.specs.declared.error.ImageError.TheVariants as I
 use Rattle.qcow2_image.proofs.Lemmas.{behind_none, Quietly, counted_ok, fewer_of, untouched, fails_none, part_none, begins, clear_works, clears_early, clears_nothing, if_some, not_refused, refused_for, ungiven_early, whole_in, none_answered}
 
@@ -149,20 +149,20 @@ pub record BeginsClearing {S F : Type 0} (view : S → StorageView) (backing : F
   pub first_is : first ≡ from_in old offset n
   pub last_is : last ≡ to_in old offset n
   pub works : is_failed old ≡ false
-  pub quiet : (out : List (Option Prepared)) → ImageInvariant view backing (pending_in view backing old out) old out → Quietly view backing out old begun
-  pub seen : (out : List (Option Prepared)) → ImageInvariant view backing (pending_in view backing old out) old out → InternalCall view backing old begun out
-  pub whole : (out : List (Option Prepared)) → InternalCall view backing old begun out → IsClearable begun.file.header.fields how first last
+  pub quiet : (out : Mappings) → ImageInvariant view backing (pending_in view backing old out) old out → Quietly view backing out old begun
+  pub seen : (out : Mappings) → ImageInvariant view backing (pending_in view backing old out) old out → InternalCall view backing old begun out
+  pub whole : (out : Mappings) → InternalCall view backing old begun out → IsClearable begun.file.header.fields how first last
 
 module _ {S F : Type 0} (view : S → StorageView) (backing : F → BackingView) (old : Qcow2 S F) (how : ClearMode) (offset n : ℕ) (checked : Result (ℕ × ℕ) ImageError)
     (check : MatchOption (refuses_to_clear old offset n how) (checked ≡ Ok (from_in old offset n, to_in old offset n)) (λ e. checked ≡ Err e)) (first last : ℕ) (was : checked ≡ Ok (first, last)) (begun : Qcow2 S F) where
-  pub begins_clearing : ((p : Pending) (out : List (Option Prepared)) → ImageInvariant view backing p old out → InternalStep view backing p p old begun out) → begun.file.free_list ≡ old.file.free_list
+  pub begins_clearing : ((p : Pending) (out : Mappings) → ImageInvariant view backing p old out → InternalStep view backing p p old begun out) → begun.file.free_list ≡ old.file.free_list
       → (IsTrue (needs_zero_entries how) → 3 ≤ old.file.header.fields.version) → BeginsClearing view backing old how offset n begun first last
   begins_clearing keeps list version =
       let range = not_refused checked (from_in old offset n, to_in old offset n) (refuses_to_clear old offset n how) (first, last) check was in
       let from : first ≡ from_in old offset n = ap (λ (r : ℕ × ℕ). r.0) range.1 in
       let to : last ≡ to_in old offset n = ap (λ (r : ℕ × ℕ). r.1) range.1 in
       let usable = clear_works old offset n how range.0 in
-      let still : (out : List (Option Prepared)) → ImageInvariant view backing (pending_in view backing old out) old out → Quietly view backing out old begun = λ out sound. record { keeps = keeps (pending_in view backing old out) out sound; list = list } in
+      let still : (out : Mappings) → ImageInvariant view backing (pending_in view backing old out) old out → Quietly view backing out old begun = λ out sound. record { keeps = keeps (pending_in view backing old out) out sound; list = list } in
       record {
         first_is = from;
         last_is = to;
@@ -177,8 +177,8 @@ module _ {S F : Type 0} (view : S → StorageView) (backing : F → BackingView)
 -- it cleared them
 pub parts_cleared : {S F : Type 0} (view : S → StorageView) (backing : F → BackingView) (old : Qcow2 S F) (how : ClearMode) (offset n : ℕ) (begun : Qcow2 S F) (first last : ℕ) → BeginsClearing view backing old how offset n begun first last
     → (entries : Qcow2 S F) (r : Result (Unit {0}) ImageError) (x : Unit {0}) → r ≡ Ok x
-    → ((out : List (Option Prepared)) → ImageInvariant view backing (pending_in view backing begun out) begun out → IsClearable begun.file.header.fields how first last → ClearsOrRefuses view backing how first last begun entries out r)
-    → (out : List (Option Prepared)) → InternalCall view backing old begun out → ClearsPart view backing how (from_in old offset n) (to_in old offset n) begun entries out
+    → ((out : Mappings) → ImageInvariant view backing (pending_in view backing begun out) begun out → IsClearable begun.file.header.fields how first last → ClearsOrRefuses view backing how first last begun entries out r)
+    → (out : Mappings) → InternalCall view backing old begun out → ClearsPart view backing how (from_in old offset n) (to_in old offset n) begun entries out
 parts_cleared view backing old how offset n begun first last b entries r x done clears out call =
     subst (λ k. ClearsPart view backing how k (to_in old offset n) begun entries out) b.first_is (subst (λ k. ClearsPart view backing how first k begun entries out) b.last_is
     (subst (ClearsOrRefuses view backing how first last begun entries out) done (clears out call.sound (b.whole out call))))

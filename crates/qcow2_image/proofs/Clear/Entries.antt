@@ -1,6 +1,7 @@
 -- An entry of a cached table is cleared: the new mapping of its guest cluster, the references that it loses, and that everything else stays the same.
 use Rattle.std.proofs.Common.{◌≡◌, ◌+◌, ◌*◌, ◌/◌, ◌%◌, ◌<◌, ◌≤◌, ◌==◌, ◌&&◌, ◌≢◌, inl, inr, ℕ, Bool, true, false, List, length, Option, Some, None, refl, sym, ap, ◌∙◌, subst, arith, cond, IsSome, IsTrue}
-use Rattle.qcow2_image.proofs.Common.{slice_get, eq-eqb, div-mul-add, slice_get_within, BackingView, StorageView, Bytes, HeaderFields, L2Mapping, Data, Zero, Compressed, cluster_size, entries_per_cluster, has_data_file, cover, cover_of, entry_cover, is_copied, l1_entry, l2_entry, host_offset, count, CoverIsAligned, IsInReach, named_run, is_same_run, old_data_run, copied_host, copied_kept, zero_cover, named_by_cover, copied_host_is, cover_of-0, cover_of-zero_entry, named_by_cover-run, Pending, CrashInvariant, IsZeros, MapsEntry, names, table_at, DriverState, StateInvariant, guest_at, EntryChanges, SameOtherCovers, Takes, takes_nothing, takes_own, entry_uncovered, entry_zeroed, pending_after, Sizes-from, cover_at, l2_pins, MetadataCaches, state_in, contents_in, known_in, IsEntryAt, MadeEntry, known_of, l2_at, own_cluster, file_invariant_of, ClearsEntry, cover_once_cleared, cleared_entry, is_cleared, needs_zero_entries, ClearMode, Zeros, KeptZeros, Qcow2, Prepared, ImageInvariant, IsPending, IsReadyWith, cluster_of, listed_run, of_data, pins_by, to_free}
+use Rattle.qcow2_laws.proofs.BesideSteps.{stands_inside}
+use Rattle.qcow2_image.proofs.Common.{slice_get, eq-eqb, div-mul-add, slice_get_within, BackingView, StorageView, Bytes, HeaderFields, L2Mapping, Data, Zero, Compressed, cluster_size, entries_per_cluster, has_data_file, cover, cover_of, entry_cover, is_copied, l1_entry, l2_entry, host_offset, count, CoverIsAligned, IsInReach, named_run, is_same_run, old_data_run, copied_host, copied_kept, zero_cover, named_by_cover, copied_host_is, cover_of-0, cover_of-zero_entry, named_by_cover-run, Pending, CrashInvariant, IsZeros, MapsEntry, names, table_at, DriverState, StateInvariant, guest_at, EntryChanges, SameOtherCovers, Takes, takes_nothing, takes_own, entry_uncovered, entry_zeroed, pending_after, Sizes-from, cover_at, l2_pins, MetadataCaches, state_in, contents_in, known_in, IsEntryAt, MadeEntry, known_of, l2_at, own_cluster, file_invariant_of, ClearsEntry, cover_once_cleared, cleared_entry, is_cleared, needs_zero_entries, ClearMode, Zeros, KeptZeros, Qcow2, Prepared, ImageInvariant, IsPending, IsReadyWith, cluster_of, listed_run, of_data, pins_by, to_free, Mappings}
 use Rattle.qcow2_metadata.specs.declared.l2_mapping.L2Mapping.TheVariants as M
 use Rattle.qcow2_metadata.specs.L2Mapping.{run_has}
 use Rattle.qcow2_image.specs.declared.discarding.ClearMode.TheVariants.{Uncovered}
@@ -10,6 +11,7 @@ use Rattle.qcow2_image.proofs.Commit.Committing.{cover_now, known_entry_changes,
 use Rattle.qcow2_image.proofs.Open.Reftables.{reftable_still}
 use Rattle.qcow2_image.proofs.Images.Ready.{still_pending, still_mapping}
 use Rattle.qcow2_image.proofs.Images.ClusterMappings.{over_all_at}
+use Rattle.qcow2_image.proofs.Images.Places.{inside_of}
 
 zeros_are : (kept : Option ℕ) → IsZeros (zero_cover kept)
 zeros_are None = tt
@@ -97,7 +99,7 @@ takes_cleared KeptZeros h new_data v aligned = takes_kept h new_data v (copied_h
 -- ---- one entry of a sound image
 
 -- one guest cluster is cleared: how it is mapped then, that no other is mapped else, and what is pending
-pub record OneCleared {S F : Type 0} (view : S → StorageView) (backing : F → BackingView) (how : ClearMode) (row column : ℕ) (a c : Qcow2 S F) (out : List (Option Prepared)) (p : Pending) : Type 0 where
+pub record OneCleared {S F : Type 0} (view : S → StorageView) (backing : F → BackingView) (how : ClearMode) (row column : ℕ) (a c : Qcow2 S F) (out : Mappings) (p : Pending) : Type 0 where
   pub now : Pending
   pub sound_now : ImageInvariant view backing now c out
   pub turn : MapsEntry (is_cleared how) (guest_at a.file.header.fields row column) (state_in view a.file p) (state_in view c.file now)
@@ -112,7 +114,7 @@ pub record OneCleared {S F : Type 0} (view : S → StorageView) (backing : F →
   pub old_data : IsInReach (cover a.file.header.fields (known_in view a.file) (guest_at a.file.header.fields row column)) → (k : ℕ) → now.old_data k ≡ p.old_data k
       + to_free of_data (listed_run (old_data_run a.file.header.fields.cluster_bits (cover a.file.header.fields (known_in view a.file) (guest_at a.file.header.fields row column)) (cover_once_cleared how (cover a.file.header.fields (known_in view a.file) (guest_at a.file.header.fields row column))))) k
 
-module _ {S F : Type 0} (view : S → StorageView) (backing : F → BackingView) (a : Qcow2 S F) (out : List (Option Prepared)) (p : Pending) (sound : ImageInvariant view backing p a out) (how : ClearMode) (t row column : ℕ)
+module _ {S F : Type 0} (view : S → StorageView) (backing : F → BackingView) (a : Qcow2 S F) (out : Mappings) (p : Pending) (sound : ImageInvariant view backing p a out) (how : ClearMode) (t row column : ℕ)
     (at : IsEntryAt a.file.header.fields (known_in view a.file) row t column) (copied : is_copied (l1_entry a.file.header.fields (contents_in view a.file) row) ≡ true) (found : IsSome (l2_at a.file.caches t)) (unpinned : l2_pins a.file.caches t ≡ 0)
     (version : IsTrue (needs_zero_entries how) → 3 ≤ a.file.header.fields.version) (b : Qcow2 S F) (clears : ClearsEntry how t column a b) where
   abbrev h : HeaderFields
@@ -160,6 +162,7 @@ module _ {S F : Type 0} (view : S → StorageView) (backing : F → BackingView)
   changes : EntryChanges s known row column
   changes = known_entry_changes s known row column (cleared_entry how (entry_cover h word)) crash_invariant at.real at.within entry.change
       (subst (λ v. Takes h p.new_data old v) (sym says) (takes_cleared how h p.new_data old (crash_invariant.known_aligned guest)))
+      (stands_inside h (guest_at h row column) (entry_cover h (cleared_entry how (entry_cover h word))) (inside_of sound))
 
   counts_stay : (k : ℕ) → count a.file.header.fields (known_in view a.file) k ≡ count a.file.header.fields (known_of a.file.header.fields b.file.caches (contents_in view a.file)) k
   counts_stay = counts_now s known row column (cleared_entry how (entry_cover h word)) crash_invariant at.real at.within entry.change
@@ -176,11 +179,11 @@ module _ {S F : Type 0} (view : S → StorageView) (backing : F → BackingView)
     covers : SameOtherCovers guest s s'
 
   zeros_mapped : (v : L2Mapping) → cover h known guest ≡ v → IsZeros v → Mapped
-  zeros_mapped (Zero kept) is zeros = let m = entry_zeroed s known row column crash_invariant changes sound.inside kept is in record { sound_then = m.safe_step.sound; covers = m.unseen.covers }
+  zeros_mapped (Zero kept) is zeros = let m = entry_zeroed s known row column crash_invariant changes (inside_of sound) kept is in record { sound_then = m.safe_step.sound; covers = m.unseen.covers }
   zeros_mapped _ is zeros = absurd zeros
 
   mapped_as : (x : ClearMode) → is_cleared x (cover h known guest) → Mapped
-  mapped_as Uncovered is = let m = entry_uncovered s known row column crash_invariant changes sound.inside is in record { sound_then = m.safe_step.sound; covers = m.unseen.covers }
+  mapped_as Uncovered is = let m = entry_uncovered s known row column crash_invariant changes (inside_of sound) is in record { sound_then = m.safe_step.sound; covers = m.unseen.covers }
   mapped_as _ is = zeros_mapped (cover h known guest) refl is
 
   is_now : is_cleared how (cover h known guest)
@@ -200,7 +203,7 @@ module _ {S F : Type 0} (view : S → StorageView) (backing : F → BackingView)
   same_l1 l = sym (mapped.sound_then.same_top.l1 l) ∙ crash_invariant.same_top.l1 l
 
   -- a mapping that is out lies in another table
-  elsewhere : (j : ℕ) (r : Prepared) → slice_get out j ≡ Some (Some r) → (u : ℕ) → r.table ≡ Some u → IsPending h s.known s.on_storage r u → (i : ℕ) → i < length r.clusters.items → cluster_of h r + i ≡ guest → ⊥
+  elsewhere : (j : ℕ) (r : Prepared) → slice_get out.slots j ≡ Some (Some r) → (u : ℕ) → r.table ≡ Some u → IsPending h out.place s.known s.on_storage r u → (i : ℕ) → i < length r.clusters.items → cluster_of h r + i ≡ guest → ⊥
   elsewhere j r there u is ready i lt here =
       let row_is : guest / entries_per_cluster h ≡ row = div-mul-add row (entries_per_cluster h) column at.within in
       let rows : cluster_of h r / entries_per_cluster h ≡ row = sym (same_row h s.known s.on_storage r u ready i lt) ∙ ap (λ n. n / entries_per_cluster h) here ∙ row_is in
@@ -211,11 +214,11 @@ module _ {S F : Type 0} (view : S → StorageView) (backing : F → BackingView)
       let pins = sound.pinned t in
       omega (arith, mine, all, pins, unpinned)
 
-  still : (j : ℕ) (r : Prepared) → slice_get out j ≡ Some (Some r) → (x : Option ℕ) → r.table ≡ x → IsReadyWith h s.known s.on_storage r x → IsReadyWith h known s.on_storage r x
+  still : (j : ℕ) (r : Prepared) → slice_get out.slots j ≡ Some (Some r) → (x : Option ℕ) → r.table ≡ x → IsReadyWith h out.place s.known s.on_storage r x → IsReadyWith h out.place known s.on_storage r x
   still j r there None is ready = ready
   still j r there (Some u) is ready =
-      still_pending h s.known s.on_storage known s.on_storage r crash_invariant.same_top.l1 mapped.sound_then.same_top.l1 (λ l marked. refl) u
-      (λ i cluster_mapping has. still_mapping h s.known s.on_storage known s.on_storage r i
+      still_pending h out.place s.known s.on_storage known s.on_storage r crash_invariant.same_top.l1 mapped.sound_then.same_top.l1 (λ l marked. refl) u
+      (λ i cluster_mapping has. still_mapping h out.place s.known s.on_storage known s.on_storage r i
       (mapped.covers (cluster_of h r + i) (λ same. elsewhere j r there u is ready i (slice_get_within r.clusters.items i cluster_mapping has) same)) cluster_mapping (ready.each i cluster_mapping has)) ready
 
   final_sound : ImageInvariant view backing after final out
@@ -228,8 +231,7 @@ module _ {S F : Type 0} (view : S → StorageView) (backing : F → BackingView)
         (clears.marks.room sound.file.room);
     l1_table = record { cluster = sound.l1_table.cluster; bits = sound.l1_table.bits; count = sound.l1_table.count; entries = sound.l1_table.entries };
     reftable = reftable_still view a.file final.file refl refl counts_stay a.allocator sound.reftable;
-    inside = sound.inside;
-    alone = sound.alone;
+    stands = sound.stands;
     below = sound.below;
     ready = λ j r there. let ready = sound.ready j r there in record { own = ready.own; mapped = still j r there r.table refl ready.mapped };
     pinned = λ table. clears.marks.pins table ∙ sound.pinned table;
@@ -237,10 +239,10 @@ module _ {S F : Type 0} (view : S → StorageView) (backing : F → BackingView)
   }
 
   named_then : (k : ℕ) → names h known k guest ≡ named_by_cover h k (cover_once_cleared how old)
-  named_then k = names_inside h sound.inside known k guest ∙ ap (named_by_cover h k) covered
+  named_then k = names_inside h (inside_of sound) known k guest ∙ ap (named_by_cover h k) covered
 
   named_before : (k : ℕ) → names h s.known k guest ≡ named_by_cover h k old
-  named_before k = names_inside h sound.inside s.known k guest
+  named_before k = names_inside h (inside_of sound) s.known k guest
 
   final_cleared : OneCleared view backing how row column a final out p
   final_cleared = record {

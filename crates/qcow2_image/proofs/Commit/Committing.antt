@@ -1,6 +1,8 @@
 -- A cluster of a prepared mapping is entered in its L2 table: its private bytes become visible.
 use Rattle.std.proofs.Common.{◌≡◌, ◌≢◌, ◌⊎◌, ◌+◌, ◌-◌, ◌*◌, ◌/◌, ◌%◌, ◌<◌, ◌≤◌, ◌∷◌, ◌++◌, ◌&&◌, ◌==◌, if◌then◌else◌, inl, inr, ℕ, true, false, List, length, [], refl, sym, ap, ◌∙◌, subst, arith, cond, Bool, Option, Some, None, IsSome, IsTrue, nat_le, nat_lt}
-use Rattle.qcow2_image.proofs.Common.{slice_get, slice_set, option_map_or, cases_lt, cases_eq, cond-true, cond-false, eq-eqb, ne_eqb, lt-leb, div-mul-add, mod-mul-add, div-add-mod', pow_pos, slice_get_within, BackingView, StorageView, Bytes, one_if, HeaderFields, cluster_size, entries_per_cluster, has_data_file, rounded_up, l1_entry, l2_entry, host_offset, count, Value, known_byte, cover, entry_cover, IsHostCluster, named_run, named_by_cover-run, IsEntryHost, copied_entry, copied_host, in_cluster, named_for_tables, Data, Zero, CoverIsAligned, cover_of-copied_entry, cluster_is_host, Disk, disk, Pending, CrashInvariant, names, marks, named_by_guest, marked_by_guest, table_at, DriverState, StateInvariant, SafeStep, PreparedMapping, given_shown, given_by_commit, committed, first_of, end_of, GivenBytes, IsGiven, guest_at, EntryChanges, guest_of, entry_top, entry_counts, Takes, takes_new_data, takes_own, works_less, TouchesLess, kept_committed, Maps, pending_after, private_committed, committed_new_data, committed_old_data, Sizes-from, cover_at, beside_tables, shares, in_own, entry_safe_throughout, run_at, KeepsPinsAndNotes, data_entry, MetadataCaches, ClustersToFreeEntry, IsEntryAt, ChangesKnownEntry, MadeEntry, MapsCachedEntry, l2_at, order_of, known_of, run_in, run_before, run_after, state_in, view_in, file_invariant_of, Qcow2, Prepared, ClusterMapping, InPlace, Kept, New, CommitsPart, ShowsPart, old_data_by, to_free, of_data, of_tables, listed_run, new_data_in, new_data_by, pins_by, over_all, pending_in, abstract_of, meaning, is_entered, is_private, cluster_of, host_begin_of, mapping_of_cluster, backing_bytes, IsNewAt, IsClusterMappingAt, IsPending, IsReady, IsReadyWith, ImageInvariant}
+use Rattle.qcow2_laws.specs.Beside.{StandsIfBeside}
+use Rattle.qcow2_laws.proofs.BesideSteps.{stands_inside}
+use Rattle.qcow2_image.proofs.Common.{slice_get, slice_set, option_map_or, cases_lt, cases_eq, cond-true, cond-false, eq-eqb, ne_eqb, lt-leb, div-mul-add, mod-mul-add, div-add-mod', pow_pos, slice_get_within, BackingView, StorageView, Bytes, one_if, HeaderFields, cluster_size, entries_per_cluster, has_data_file, rounded_up, l1_entry, l2_entry, host_offset, count, Value, known_byte, cover, entry_cover, IsHostCluster, named_run, named_by_cover-run, IsEntryHost, copied_entry, copied_host, in_cluster, named_for_tables, Data, Zero, CoverIsAligned, cover_of-copied_entry, cluster_is_host, Disk, disk, Pending, CrashInvariant, names, marks, named_by_guest, marked_by_guest, table_at, DriverState, StateInvariant, SafeStep, PreparedMapping, given_shown, given_by_commit, committed, first_of, end_of, GivenBytes, IsGiven, guest_at, EntryChanges, guest_of, entry_top, entry_counts, Takes, takes_new_data, takes_own, works_less, TouchesLess, kept_committed, Maps, pending_after, private_committed, committed_new_data, committed_old_data, Sizes-from, cover_at, beside_tables, shares, in_own, entry_safe_throughout, run_at, KeepsPinsAndNotes, data_entry, MetadataCaches, ClustersToFreeEntry, IsEntryAt, ChangesKnownEntry, MadeEntry, MapsCachedEntry, l2_at, order_of, known_of, run_in, run_before, run_after, state_in, view_in, file_invariant_of, Qcow2, Prepared, ClusterMapping, InPlace, Kept, New, CommitsPart, ShowsPart, old_data_by, to_free, of_data, of_tables, listed_run, new_data_in, new_data_by, pins_by, over_all, pending_in, abstract_of, meaning, is_entered, is_private, cluster_of, host_begin_of, mapping_of_cluster, backing_bytes, IsNewAt, IsClusterMappingAt, IsPending, IsReady, IsReadyWith, ImageInvariant, Mappings, set_slot, in_image}
 use Rattle.qcow2_metadata.specs.L2Mapping.{run_has}
 use Rattle.qcow2_laws.specs.GuestLaws.{Kept as HostedKept, Held as HostedHeld}
 use Rattle.qcow2_image.proofs.Images.Sound.{free_more}
@@ -12,6 +14,8 @@ use Rattle.qcow2_image.proofs.Call.Slots.{get_set_other, get_set_same, length_se
 use Rattle.qcow2_image.proofs.Call.Stepped.{Steps, stepped_sound, stepped_works}
 use Rattle.qcow2_image.proofs.Images.ClusterMappings.{new_data_less, over_all_at, place_in, private_is}
 use Rattle.qcow2_image.proofs.Images.UngivenCovers.{touches_part, ungiven_stay, touches_own}
+use Rattle.qcow2_image.proofs.Images.Places.{inside_of}
+use Rattle.qcow2_image.specs.declared.mapping.Place.{Place}
 
 -- ---- the entry of a held table changes to a held cluster
 module _ (s : DriverState) (known' : Bytes) (i j entry : ℕ) (sound : StateInvariant s) (real : table_at s.header s.known i ≢ 0) (within : j < entries_per_cluster s.header)
@@ -30,8 +34,8 @@ module _ (s : DriverState) (known' : Bytes) (i j entry : ℕ) (sound : StateInva
       cover_at s.header known' i j (Sizes-from s.header s.on_storage sound.top.header_reads) (λ none. real (sym same_table ∙ none)) within
       ∙ ap (λ t. entry_cover s.header (l2_entry known' t j)) same_table ∙ ap (entry_cover s.header) c.is
 
-  pub known_entry_changes : Takes s.header s.pending.new_data (cover s.header s.known (guest_at s.header i j)) (entry_cover s.header entry) → EntryChanges s known' i j
-  known_entry_changes takes = record {
+  pub known_entry_changes : Takes s.header s.pending.new_data (cover s.header s.known (guest_at s.header i j)) (entry_cover s.header entry) → StandsIfBeside s.header (guest_at s.header i j) (entry_cover s.header entry) → EntryChanges s known' i j
+  known_entry_changes takes stands = record {
     real = real;
     within = within;
     outside = c.outside;
@@ -43,6 +47,7 @@ module _ (s : DriverState) (known' : Bytes) (i j entry : ℕ) (sound : StateInva
         let t = takes.marked k in
         omega arith;
     aligned = subst (CoverIsAligned s.header) (sym cover_now) takes.aligned;
+    at_guest = subst (StandsIfBeside s.header (guest_at s.header i j)) (sym cover_now) stands;
   }
 
 -- 1 for the one cluster of a run of one
@@ -67,7 +72,7 @@ listed_tables None c = refl
 listed_tables (Some run) c = refl
 
 -- a mapping has a cluster mapping for each of its whole clusters
-pub ends_at : (h : HeaderFields) (known on_storage : Bytes) (p : Prepared) (t : ℕ) → IsPending h known on_storage p t → rounded_up (cluster_size h) (p.guest + p.length) ≡ (cluster_of h p + length p.clusters.items) * cluster_size h
+pub ends_at : {place : Place} (h : HeaderFields) (known on_storage : Bytes) (p : Prepared) (t : ℕ) → IsPending h place known on_storage p t → rounded_up (cluster_size h) (p.guest + p.length) ≡ (cluster_of h p + length p.clusters.items) * cluster_size h
 ends_at h known on_storage p t pending =
     let size = cluster_size h in
     let n = length p.clusters.items in
@@ -91,7 +96,10 @@ mapping_same h p q i same items g other =
 
 module _ {S F : Type 0} (view : S → StorageView) (backing : F → BackingView) (old : Qcow2 S F) (p like : Prepared) (t i : ℕ) (cluster_mapping : ClusterMapping) (is_table : p.table ≡ Some t) (was : slice_get p.clusters.items i ≡ Some cluster_mapping) (is_entered_now : IsTrue (is_entered cluster_mapping))
     (items : like.clusters.items ≡ slice_set p.clusters.items i InPlace) (caches : MetadataCaches S) (marks : KeepsPinsAndNotes old.file.caches caches) (order : order_of caches ≡ order_of old.file.caches) (answer : Option (ℕ × ℕ))
-    (out : List (Option Prepared)) (k : ℕ) (placed : slice_get out k ≡ Some (Some p)) (sound : ImageInvariant view backing (pending_in view backing old out) old out) where
+    (slots : List (Option Prepared)) (k : ℕ) (placed : slice_get slots k ≡ Some (Some p)) (sound : ImageInvariant view backing (pending_in view backing old (in_image slots)) old (in_image slots)) where
+  abbrev out : Mappings
+  out = in_image slots
+
   abbrev h : HeaderFields
   h = old.file.header.fields
 
@@ -105,11 +113,11 @@ module _ {S F : Type 0} (view : S → StorageView) (backing : F → BackingView)
   abbrev q : Prepared
   q = record p { clusters = like.clusters }
 
-  abbrev now : List (Option Prepared)
-  now = slice_set out k (Some q)
+  abbrev now : Mappings
+  now = set_slot out k (Some q)
 
-  pending : IsPending h s.known s.on_storage p t
-  pending = subst (IsReadyWith h s.known s.on_storage p) is_table (sound.ready k p placed).mapped
+  pending : IsPending h out.place s.known s.on_storage p t
+  pending = subst (IsReadyWith h out.place s.known s.on_storage p) is_table (sound.ready k p placed).mapped
 
   within : i < length p.clusters.items
   within = slice_get_within p.clusters.items i cluster_mapping was
@@ -130,7 +138,7 @@ module _ {S F : Type 0} (view : S → StorageView) (backing : F → BackingView)
   guest_is = let e : cluster_of h p / entries_per_cluster h * entries_per_cluster h + cluster_of h p % entries_per_cluster h ≡ cluster_of h p = div-add-mod' (cluster_of h p) (entries_per_cluster h) in omega arith
 
   module _ (first : ℕ) (place : first * cluster_size h ≡ host_begin_of h p i) (nameable : IsHostCluster h.cluster_bits first) (found : IsSome (l2_at old.file.caches t)) (maps : MapsCachedEntry old.file.caches caches t column first answer)
-      (stands : IsClusterMappingAt h s.known s.on_storage p i cluster_mapping) where
+      (stands : IsClusterMappingAt h out.place s.known s.on_storage p i cluster_mapping) where
     abbrev host : ℕ
     host = first * cluster_size h
 
@@ -167,9 +175,9 @@ module _ {S F : Type 0} (view : S → StorageView) (backing : F → BackingView)
           omega arith
 
     -- what is so of a new cluster, and of one that a zero entry keeps
-    no_table_as : (x : ClusterMapping) → cluster_mapping ≡ x → IsTrue (is_entered x) → IsClusterMappingAt h s.known s.on_storage p i x → named_for_tables h s.on_storage (host / cluster_size h) ≡ 0
+    no_table_as : (x : ClusterMapping) → cluster_mapping ≡ x → IsTrue (is_entered x) → IsClusterMappingAt h out.place s.known s.on_storage p i x → named_for_tables h s.on_storage (host / cluster_size h) ≡ 0
     no_table_as InPlace is entered at = absurd (let e : false ≡ true = entered in cc)
-    no_table_as Kept is entered at = beside_tables s HostedKept ((cluster_of h p + i) * cluster_size h) host sound.file.caches.kept.kept.crash_invariant sound.inside (
+    no_table_as Kept is entered at = beside_tables s HostedKept ((cluster_of h p + i) * cluster_size h) host sound.file.caches.kept.kept.crash_invariant (inside_of sound) (
       host,
       (
           let e : (cluster_of h p + i) * cluster_size h ≡ (cluster_of h p + i) * cluster_size h + 0 = omega arith in
@@ -181,9 +189,9 @@ module _ {S F : Type 0} (view : S → StorageView) (backing : F → BackingView)
           omega arith
           ),
     )
-    no_table_as (New taken old_data) is entered at = beside_tables s HostedHeld 0 host sound.file.caches.kept.kept.crash_invariant sound.inside (new_data_there taken old_data is at)
+    no_table_as (New taken old_data) is entered at = beside_tables s HostedHeld 0 host sound.file.caches.kept.kept.crash_invariant (inside_of sound) (new_data_there taken old_data is at)
 
-    takes_as : (x : ClusterMapping) → cluster_mapping ≡ x → IsTrue (is_entered x) → IsClusterMappingAt h s.known s.on_storage p i x → Takes h before.new_data (cover h s.known (guest_at h row column)) (Data host true)
+    takes_as : (x : ClusterMapping) → cluster_mapping ≡ x → IsTrue (is_entered x) → IsClusterMappingAt h out.place s.known s.on_storage p i x → Takes h before.new_data (cover h s.known (guest_at h row column)) (Data host true)
     takes_as InPlace is entered at = absurd (let e : false ≡ true = entered in cc)
     takes_as Kept is entered at = (takes_own h before.new_data (cover h s.known (guest_at h row column)) host host_aligned (ap copied_host (ap (cover h s.known) guest_is ∙ at.entry) ∙ ap Some (sym place))).0
     takes_as (New taken old_data) is entered at = takes_new_data s (guest_at h row column) host sound.file.caches.kept.kept.crash_invariant host_aligned (new_data_there taken old_data is at)
@@ -208,7 +216,7 @@ module _ {S F : Type 0} (view : S → StorageView) (backing : F → BackingView)
 
     changes : EntryChanges s known row column
     changes = known_entry_changes s known row column (copied_entry host) sound.file.caches.kept.kept.crash_invariant at_entry.real at_entry.within entry.change
-        (subst (λ v. Takes h before.new_data (cover h s.known (guest_at h row column)) v) (sym covers_host) (takes_as cluster_mapping refl is_entered_now stands))
+        (subst (λ v. Takes h before.new_data (cover h s.known (guest_at h row column)) v) (sym covers_host) (takes_as cluster_mapping refl is_entered_now stands)) (stands_inside h (guest_at h row column) (entry_cover h (copied_entry host)) sound.stands.inside)
 
     abbrev values : Bytes → ℕ → Value
     values below o = known_byte (s.on_storage (host + o % cluster_size h))
@@ -223,11 +231,11 @@ module _ {S F : Type 0} (view : S → StorageView) (backing : F → BackingView)
       old_data : (c : ℕ) → after.old_data c ≡ before.old_data c + to_free of_data (old_data_by cluster_mapping) c
       surplus : after.surplus ≡ before.surplus
 
-    made_as : (x : ClusterMapping) → cluster_mapping ≡ x → IsTrue (is_entered x) → IsClusterMappingAt h s.known s.on_storage p i x → Made
+    made_as : (x : ClusterMapping) → cluster_mapping ≡ x → IsTrue (is_entered x) → IsClusterMappingAt h out.place s.known s.on_storage p i x → Made
     made_as InPlace is entered at = absurd (let e : false ≡ true = entered in cc)
     made_as Kept is entered at = record {
       after = before;
-      mapped = kept_committed s known row column host sound.file.caches.kept.kept.crash_invariant sound.inside changes (ap (cover h s.known) guest_is ∙ at.entry ∙ ap (λ n. Zero (Some (n, true))) (sym place)) covered;
+      mapped = kept_committed s known row column host sound.file.caches.kept.kept.crash_invariant (inside_of sound) changes (ap (cover h s.known) guest_is ∙ at.entry ∙ ap (λ n. Zero (Some (n, true))) (sym place)) covered;
       new_data = λ c. let none : new_data_in (cluster_mapping ∷ []) c ≡ 0 = ap (λ (x : ClusterMapping). new_data_in (x ∷ []) c) is in omega arith;
       new_tables = λ c. refl;
       old_tables = λ c. let none : to_free of_tables (old_data_by cluster_mapping) c ≡ 0 = ap (λ (x : ClusterMapping). to_free of_tables (old_data_by x) c) is in omega arith;
@@ -238,9 +246,9 @@ module _ {S F : Type 0} (view : S → StorageView) (backing : F → BackingView)
         let new_data_host = new_data_there taken old_data is at in
         record {
           after = pending_after s known (guest_at h row column);
-          mapped = private_committed s known row column sound.file.caches.kept.kept.crash_invariant changes sound.inside host covered new_data_host;
+          mapped = private_committed s known row column sound.file.caches.kept.kept.crash_invariant changes (inside_of sound) host covered new_data_host;
           new_data = λ c.
-              let left = committed_new_data s known row column sound.file.caches.kept.kept.crash_invariant changes sound.inside host covered new_data_host c in
+              let left = committed_new_data s known row column sound.file.caches.kept.kept.crash_invariant changes (inside_of sound) host covered new_data_host c in
               let one = mine taken old_data is at c in
               let less = new_data_less p.clusters.items i cluster_mapping was c in
               let all = over_all_at new_data_by out k p placed c in
@@ -248,8 +256,8 @@ module _ {S F : Type 0} (view : S → StorageView) (backing : F → BackingView)
           new_tables = λ c. refl;
           old_tables = λ c. let none : to_free of_tables (old_data_by cluster_mapping) c ≡ 0 = ap (λ (x : ClusterMapping). to_free of_tables (old_data_by x) c) is ∙ ap (λ l. to_free of_tables l c) at.drops ∙ listed_tables (named_run h.cluster_bits (cover h s.known (cluster_of h p + i))) c in omega arith;
           old_data = λ c.
-              let more = committed_old_data s known row column sound.file.caches.kept.kept.crash_invariant changes sound.inside host covered new_data_host c in
-              let named : names h s.known c (guest_at h row column) ≡ run_has (named_run h.cluster_bits (cover h s.known (cluster_of h p + i))) c = ap (names h s.known c) guest_is ∙ names_inside h sound.inside s.known c (cluster_of h p + i) ∙ named_by_cover-run (cover h s.known (cluster_of h p + i)) h c at.reach in
+              let more = committed_old_data s known row column sound.file.caches.kept.kept.crash_invariant changes (inside_of sound) host covered new_data_host c in
+              let named : names h s.known c (guest_at h row column) ≡ run_has (named_run h.cluster_bits (cover h s.known (cluster_of h p + i))) c = ap (names h s.known c) guest_is ∙ names_inside h (inside_of sound) s.known c (cluster_of h p + i) ∙ named_by_cover-run (cover h s.known (cluster_of h p + i)) h c at.reach in
               let gone : to_free of_data (old_data_by cluster_mapping) c ≡ run_has (named_run h.cluster_bits (cover h s.known (cluster_of h p + i))) c =
               ap (λ (x : ClusterMapping). to_free of_data (old_data_by x) c) is ∙ ap (λ l. to_free of_data l c) at.drops ∙ listed_has (named_run h.cluster_bits (cover h s.known (cluster_of h p + i))) c in
               omega arith;
@@ -276,25 +284,25 @@ module _ {S F : Type 0} (view : S → StorageView) (backing : F → BackingView)
     same_l1 : (l : ℕ) → l1_entry h known l ≡ l1_entry h s.known l
     same_l1 l = sym (safe_step.sound.same_top.l1 l) ∙ sound.file.caches.kept.kept.crash_invariant.same_top.l1 l
 
-    still_other : (j : ℕ) (r : Prepared) → (j ≡ k → ⊥) → slice_get out j ≡ Some (Some r) → (x : Option ℕ) → r.table ≡ x → IsReadyWith h s.known s.on_storage r x → IsReadyWith h known s.on_storage r x
+    still_other : (j : ℕ) (r : Prepared) → (j ≡ k → ⊥) → slice_get out.slots j ≡ Some (Some r) → (x : Option ℕ) → r.table ≡ x → IsReadyWith h out.place s.known s.on_storage r x → IsReadyWith h out.place known s.on_storage r x
     still_other j r apart there None is ready = ready
     still_other j r apart there (Some u) is ready =
-        still_pending h s.known s.on_storage known s.on_storage r sound.file.caches.kept.kept.crash_invariant.same_top.l1 safe_step.sound.same_top.l1 (λ l copied. refl) u
-        (λ b other at. still_mapping h s.known s.on_storage known s.on_storage r b
+        still_pending h out.place s.known s.on_storage known s.on_storage r sound.file.caches.kept.kept.crash_invariant.same_top.l1 safe_step.sound.same_top.l1 (λ l copied. refl) u
+        (λ b other at. still_mapping h out.place s.known s.on_storage known s.on_storage r b
         (made.mapped.unseen.covers (cluster_of h r + b) (λ same. apart_guests view backing old out before sound k p placed t is_table pending j r apart there u is ready i b within (slice_get_within r.clusters.items b other at) (sym guest_is ∙ sym same))) other (ready.each b other at)) ready
 
-    mapping_left : (l : ℕ) (x : ClusterMapping) → slice_get q.clusters.items l ≡ Some x → IsClusterMappingAt h known s.on_storage q l x
+    mapping_left : (l : ℕ) (x : ClusterMapping) → slice_get q.clusters.items l ≡ Some x → IsClusterMappingAt h out.place known s.on_storage q l x
     mapping_left l x at = elim (cases_eq l i) [
       | inl here ↦
           let e : Some x ≡ Some InPlace = sym at ∙ ap (λ (y : List ClusterMapping). slice_get y l) items ∙ ap (slice_get (slice_set p.clusters.items i InPlace)) here ∙ get_set_same p.clusters.items i InPlace cluster_mapping was in
           let same : x ≡ InPlace = cc in
-          subst (λ (y : ClusterMapping). IsClusterMappingAt h known s.on_storage q l y) (sym same)
+          subst (λ (y : ClusterMapping). IsClusterMappingAt h out.place known s.on_storage q l y) (sym same)
           (ap (λ n. cover h known (cluster_of h p + n)) here ∙ ap (cover h known) (sym guest_is) ∙ covered ∙ ap (λ n. Data n true) (place ∙ ap (host_begin_of h p) (sym here)))
       | inr other ↦
           let there : slice_get p.clusters.items l ≡ Some x = sym (get_set_other p.clusters.items i l InPlace other) ∙ ap (λ (y : List ClusterMapping). slice_get y l) (sym items) ∙ at in
-          left_as x (still_mapping h s.known s.on_storage known s.on_storage p l (made.mapped.unseen.covers (cluster_of h p + l) (λ same. other (let e = guest_is in omega arith))) x (pending.each l x there))
+          left_as x (still_mapping h out.place s.known s.on_storage known s.on_storage p l (made.mapped.unseen.covers (cluster_of h p + l) (λ same. other (let e = guest_is in omega arith))) x (pending.each l x there))
     ] where
-      left_as : (x : ClusterMapping) → IsClusterMappingAt h known s.on_storage p l x → IsClusterMappingAt h known s.on_storage q l x
+      left_as : (x : ClusterMapping) → IsClusterMappingAt h out.place known s.on_storage p l x → IsClusterMappingAt h out.place known s.on_storage q l x
       left_as InPlace at = at
       left_as Kept at = record { first = at.first; place = at.place; nameable = at.nameable; entry = at.entry }
       left_as (New taken old_data) at = record { first = at.first; is = at.is; place = at.place; nameable = at.nameable; entry = at.entry; reach = at.reach; drops = at.drops }
@@ -302,7 +310,7 @@ module _ {S F : Type 0} (view : S → StorageView) (backing : F → BackingView)
     as_many : length q.clusters.items ≡ length p.clusters.items
     as_many = ap (λ (l : List ClusterMapping). length l) items ∙ length_set p.clusters.items i InPlace
 
-    left_pending : IsPending h known s.on_storage q t
+    left_pending : IsPending h out.place known s.on_storage q t
     left_pending =
         let there : table_at h known row ≡ table_at h s.known row = ap host_offset (same_l1 row) in
         record {
@@ -316,15 +324,15 @@ module _ {S F : Type 0} (view : S → StorageView) (backing : F → BackingView)
           each = mapping_left;
         }
 
-    ready_now : (j : ℕ) (r : Prepared) → slice_get now j ≡ Some (Some r) → IsReady view backing final r
+    ready_now : (j : ℕ) (r : Prepared) → slice_get now.slots j ≡ Some (Some r) → IsReady view backing out.place final r
     ready_now j r at = elim (cases_eq j k) [
       | inl here ↦
-          let e : Some (Some r) ≡ Some (Some q) = sym at ∙ ap (slice_get now) here ∙ get_set_same out k (Some q) (Some p) placed in
+          let e : Some (Some r) ≡ Some (Some q) = sym at ∙ ap (slice_get now.slots) here ∙ get_set_same slots k (Some q) (Some p) placed in
           let same : r ≡ q = cc in
-          subst (λ (x : Prepared). IsReady view backing final x) (sym same)
-          (record { own = (sound.ready k p placed).own; mapped = subst (IsReadyWith h known s.on_storage q) (sym is_table) left_pending })
+          subst (λ (x : Prepared). IsReady view backing out.place final x) (sym same)
+          (record { own = (sound.ready k p placed).own; mapped = subst (IsReadyWith h out.place known s.on_storage q) (sym is_table) left_pending })
       | inr other ↦
-          let there : slice_get out j ≡ Some (Some r) = sym (get_set_other out k j (Some q) other) ∙ at in
+          let there : slice_get out.slots j ≡ Some (Some r) = sym (get_set_other slots k j (Some q) other) ∙ at in
           let ready = sound.ready j r there in
           record { own = ready.own; mapped = still_other j r other there r.table refl ready.mapped }
     ]
@@ -342,8 +350,7 @@ module _ {S F : Type 0} (view : S → StorageView) (backing : F → BackingView)
           (marks.room sound.file.room);
       l1_table = record { cluster = sound.l1_table.cluster; bits = sound.l1_table.bits; count = sound.l1_table.count; entries = sound.l1_table.entries };
       reftable = reftable_still view old.file final.file refl refl (counts_now s known row column (copied_entry host) sound.file.caches.kept.kept.crash_invariant at_entry.real at_entry.within entry.change) old.allocator sound.reftable;
-      inside = sound.inside;
-      alone = sound.alone;
+      stands = sound.stands;
       below = sound.below;
       ready = ready_now;
       pinned = λ table. marks.pins table ∙ sound.pinned table ∙ sym (same_pins table);
@@ -375,7 +382,7 @@ module _ {S F : Type 0} (view : S → StorageView) (backing : F → BackingView)
 
     -- ---- what it shows
     abbrev m : PreparedMapping
-    m = meaning view backing old p
+    m = meaning view backing out.place old p
 
     abbrev below : Bytes
     below = backing_bytes view backing old.backing
@@ -403,7 +410,7 @@ module _ {S F : Type 0} (view : S → StorageView) (backing : F → BackingView)
     disk_other : (o : ℕ) → o / cluster_size h ≢ cluster_of h p + i → (disk known below).value o ≡ d.value o
     disk_other o other = ap (λ (x : Disk). x.value o) (made.mapped.shows below) ∙ cond-false _ _ _ (ne_eqb _ _ (λ e. other (e ∙ guest_is)))
 
-    private_left : (o : ℕ) → IsTrue (is_private view backing final q o) → IsTrue (is_private view backing old p o) × ((meaning view backing final q).shown o ≡ m.shown o) × ((disk known below).value o ≡ d.value o)
+    private_left : (o : ℕ) → IsTrue (is_private view backing final q o) → IsTrue (is_private view backing old p o) × ((meaning view backing out.place final q).shown o ≡ m.shown o) × ((disk known below).value o ≡ d.value o)
     private_left o private = elim (cases_eq (o / cluster_size h) (cluster_of h p + i)) [
       | inl here ↦ absurd (let e : true ≡ false = sym private ∙ mine_in_place o here in cc)
       | inr other ↦
@@ -417,9 +424,9 @@ module _ {S F : Type 0} (view : S → StorageView) (backing : F → BackingView)
       | inr other ↦ disk_other o other ∙ sym (cond-false _ _ _ (sym (others_same o other) ∙ isnt))
     ]
 
-    shows_part : ShowsPart (guest_of (abstract_of view backing old out)) (guest_of (abstract_of view backing final now)) k m (meaning view backing final q)
+    shows_part : ShowsPart (guest_of (abstract_of view backing old out)) (guest_of (abstract_of view backing final now)) k m (meaning view backing out.place final q)
     shows_part = record {
-      slots = λ j. slot_set (meaning view backing old) out k (Some q) (Some p) placed j;
+      slots = λ j. slot_set (meaning view backing out.place old) slots k (Some q) (Some p) placed j;
       size = ap (λ (x : Disk). x.size) (made.mapped.shows below);
       from = refl;
       length = refl;

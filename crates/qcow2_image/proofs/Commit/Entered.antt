@@ -1,15 +1,16 @@
 -- The clusters of a prepared mapping are entered one after another, until no byte of it is private.
 use Rattle.std.proofs.Common.{◌≡◌, ◌⊎◌, ◌+◌, ◌-◌, ◌*◌, ◌/◌, ◌%◌, ◌^◌, ◌<◌, ◌≤◌, ◌∷◌, ◌++◌, if◌then◌else◌, ◌==◌, inl, inr, ℕ, Bool, true, false, List, length, [], refl, sym, ap, ◌∙◌, subst, arith, min, Option, Some, None, IsSome, IsTrue}
-use Rattle.qcow2_image.proofs.Common.{KeepsFileNotes, notes_none, notes_then, slice_get, slice_set, option_map_or, lookup, cases_eq, cond-true, cond-false, eq-eqb, ne_eqb, append-nil, pow_pos, slice_get_within, pow_mono, fun_ext, BackingView, StorageView, Bytes, HeaderFields, cluster_size, entries_per_cluster, rounded_down, rounded_up, IsHostCluster, Guest, Setting, guest_of, meaning_at, EffectOnSound, PreparedMapping, first_of, end_of, given_shown, given_by_commit, committed, works_less, works_then, l2_pins, MetadataCaches, Slot, MapsCachedEntry, l2_at, contents_in, known_in, ClustersToFreeEntry, PreservesHeaderCluster, Qcow2, Prepared, ClusterMapping, InPlace, Kept, New, CommitsPart, EntersAll, IsEntered, ShowsPart, ImageStays, DropsNothing, EntersMapping, old_data_by, cluster_of, host_begin_of, is_entered, pins_by, pending_in, abstract_of, meaning, is_private, IsClusterMappingAt, IsPending, IsReadyWith, ImageInvariant}
+use Rattle.qcow2_image.proofs.Common.{KeepsFileNotes, notes_none, notes_then, slice_get, slice_set, option_map_or, lookup, cases_eq, cond-true, cond-false, eq-eqb, ne_eqb, append-nil, pow_pos, slice_get_within, pow_mono, fun_ext, BackingView, StorageView, Bytes, HeaderFields, cluster_size, entries_per_cluster, rounded_down, rounded_up, IsHostCluster, Guest, Setting, guest_of, meaning_at, EffectOnSound, PreparedMapping, first_of, end_of, given_shown, given_by_commit, committed, works_less, works_then, l2_pins, MetadataCaches, Slot, MapsCachedEntry, l2_at, contents_in, known_in, ClustersToFreeEntry, PreservesHeaderCluster, Qcow2, Prepared, ClusterMapping, InPlace, Kept, New, CommitsPart, EntersAll, IsEntered, ShowsPart, ImageStays, DropsNothing, EntersMapping, old_data_by, cluster_of, host_begin_of, is_entered, pins_by, pending_in, abstract_of, meaning, is_private, IsClusterMappingAt, IsPending, IsReadyWith, ImageInvariant, Mappings, set_slot, in_image, Image}
 use Rattle.qcow2_image.proofs.Call.Notes.{same_kept, table_kept}
 use Rattle.std.specs.Option.{option_map}
 use Rattle.qcow2_image.proofs.Call.BehindHeader.{behind_by, behind_none, behind_tables, behind_then}
 use Rattle.qcow2_image.proofs.Images.Apart.{pins_own}
 use Rattle.qcow2_image.proofs.Call.Called.{works_none}
-use Rattle.qcow2_image.proofs.Call.Slots.{get_set_other, get_set_same, length_set, set_same, set_set}
+use Rattle.qcow2_image.proofs.Call.Slots.{get_set_other, get_set_same, length_set, set_same, set_slot_same, set_set, set_slot_set}
 use Rattle.qcow2_image.proofs.Commit.Committing.{enters_part}
 use Rattle.qcow2_image.proofs.Images.ClusterMappings.{host_first, over_all_at, private_shared}
 use Rattle.qcow2_image.proofs.Images.Backings.{table_is}
+use Rattle.qcow2_image.proofs.Images.Places.{by_place}
 
 -- ---- what a guest sees, in parts
 -- nothing is shown anew
@@ -63,40 +64,40 @@ outside_same : (f f' n n' s s' g : ℕ) → f' ≡ f → n' ≡ n → s' ≡ s �
 outside_same f f' n n' s s' g from more size is =
     subst (λ x. (g < f' / x) ⊎ (f' + n' ≤ g * x)) (sym size) (subst (λ x. (g < f' / s) ⊎ (f' + x ≤ g * s)) (sym more) (subst (λ x. (g < x / s) ⊎ (x + n ≤ g * s)) (sym from) is))
 
-module _ {S F : Type 0} (view : S → StorageView) (backing : F → BackingView) (out : List (Option Prepared)) (k : ℕ) where
+module _ {S F : Type 0} (view : S → StorageView) (backing : F → BackingView) (out : Mappings) (k : ℕ) where
   -- ---- a commit in parts
   -- nothing is entered yet
-  pub parts_none : (image : Qcow2 S F) (p : Prepared) → slice_get out k ≡ Some (Some p) → ImageInvariant view backing (pending_in view backing image out) image out → CommitsPart view backing image image out k p p
+  pub parts_none : (image : Qcow2 S F) (p : Prepared) → slice_get out.slots k ≡ Some (Some p) → ImageInvariant view backing (pending_in view backing image out) image out → CommitsPart view backing image image out k p p
   parts_none image p placed sound =
       let v = abstract_of view backing image out in
-      let same : slice_set out k (Some p) ≡ out = set_same out k (Some p) placed in
-      let m = meaning view backing image p in
-      let given_bytes = given_by_commit v.setting.cluster_size (guest_of v).disk (meaning view backing image p) ∷ [] in
+      let same : set_slot out k (Some p) ≡ out = set_slot_same out k (Some p) placed in
+      let m = meaning view backing out.place image p in
+      let given_bytes = given_by_commit v.setting.cluster_size (guest_of v).disk (meaning view backing out.place image p) ∷ [] in
       record {
         works = subst (λ now. EffectOnSound v (abstract_of view backing image now) given_bytes []) (sym same) (works_less v v [] given_bytes [] (λ o x never. absurd never) (λ g u. tt) (works_none v sound));
         sound = subst (λ now. ImageInvariant view backing (pending_in view backing image now) image now) (sym same) sound;
-        shows = subst (λ now. ShowsPart (guest_of v) (guest_of (abstract_of view backing image now)) k m m) (sym same) (shows_none (guest_of v) k m (ap (meaning_at (meaning view backing image)) placed));
+        shows = subst (λ now. ShowsPart (guest_of v) (guest_of (abstract_of view backing image now)) k m m) (sym same) (shows_none (guest_of v) k m (ap (meaning_at (meaning view backing out.place image)) placed));
         beside = λ g outside. refl;
       }
 
-  pub parts_then : (a b c : Qcow2 S F) (p q r : Prepared) → CommitsPart view backing a b out k p q → CommitsPart view backing b c (slice_set out k (Some q)) k q r → CommitsPart view backing a c out k p r
+  pub parts_then : (a b c : Qcow2 S F) (p q r : Prepared) → CommitsPart view backing a b out k p q → CommitsPart view backing b c (set_slot out k (Some q)) k q r → CommitsPart view backing a c out k p r
   parts_then a b c p q r first next =
-      let mid = slice_set out k (Some q) in
-      let end : slice_set (slice_set out k (Some q)) k (Some r) ≡ slice_set out k (Some r) = set_set out k (Some q) (Some r) in
+      let mid = set_slot out k (Some q) in
+      let end : set_slot (set_slot out k (Some q)) k (Some r) ≡ set_slot out k (Some r) = set_slot_set out k (Some q) (Some r) in
       let va = abstract_of view backing a out in
       let vb = abstract_of view backing b mid in
-      let ma = meaning view backing a p in
-      let mb = meaning view backing b q in
-      let mc = meaning view backing c r in
+      let ma = meaning view backing out.place a p in
+      let mb = meaning view backing out.place b q in
+      let mc = meaning view backing out.place c r in
       let given_bytes = given_by_commit va.setting.cluster_size (guest_of va).disk ma ∷ [] in
       let sizes : vb.setting.cluster_size ≡ va.setting.cluster_size = ap (λ (x : Setting). x.cluster_size) first.works.setting in
       let bytes_given : given_by_commit vb.setting.cluster_size (guest_of vb).disk mb ∷ [] ≡ given_bytes =
       ap (λ n. given_by_commit n (guest_of vb).disk mb ∷ []) sizes ∙ ap (λ g. g ∷ []) (given_same (guest_of va) (guest_of vb) (guest_of vb) k ma mb mb first.shows va.setting.cluster_size) in
       record {
-        works = works_then va vb (abstract_of view backing c (slice_set out k (Some r))) given_bytes [] first.sound first.works
-            (subst (λ now. EffectOnSound vb (abstract_of view backing c now) given_bytes []) end (subst (λ gs. EffectOnSound vb (abstract_of view backing c (slice_set mid k (Some r))) gs []) bytes_given next.works));
+        works = works_then va vb (abstract_of view backing c (set_slot out k (Some r))) given_bytes [] first.sound first.works
+            (subst (λ now. EffectOnSound vb (abstract_of view backing c now) given_bytes []) end (subst (λ gs. EffectOnSound vb (abstract_of view backing c (set_slot mid k (Some r))) gs []) bytes_given next.works));
         sound = subst (λ now. ImageInvariant view backing (pending_in view backing c now) c now) end next.sound;
-        shows = shows_then (guest_of va) (guest_of vb) (guest_of (abstract_of view backing c (slice_set out k (Some r)))) k ma mb mc first.shows
+        shows = shows_then (guest_of va) (guest_of vb) (guest_of (abstract_of view backing c (set_slot out k (Some r)))) k ma mb mc first.shows
             (subst (λ now. ShowsPart (guest_of vb) (guest_of (abstract_of view backing c now)) k mb mc) end next.shows);
         beside = λ g outside. first.beside g outside ∙ next.beside g (outside_same p.guest q.guest p.length q.length va.setting.cluster_size vb.setting.cluster_size g first.shows.from first.shows.length sizes outside);
       }
@@ -117,20 +118,23 @@ pub record HasFirst (h : HeaderFields) (p : Prepared) (i : ℕ) : Type 0 where
   pub place : first * cluster_size h ≡ host_begin_of h p i
   pub nameable : IsHostCluster h.cluster_bits first
 
-first_as : (h : HeaderFields) (known on_storage : Bytes) (p : Prepared) (i : ℕ) (cluster_mapping : ClusterMapping) → IsTrue (is_entered cluster_mapping) → IsClusterMappingAt h known on_storage p i cluster_mapping → HasFirst h p i
+first_as : (h : HeaderFields) (known on_storage : Bytes) (p : Prepared) (i : ℕ) (cluster_mapping : ClusterMapping) → IsTrue (is_entered cluster_mapping) → IsClusterMappingAt h Image known on_storage p i cluster_mapping → HasFirst h p i
 first_as h known on_storage p i InPlace entered at = absurd (let e : false ≡ true = entered in cc)
 first_as h known on_storage p i Kept entered at = record { first = at.first; place = at.place; nameable = at.nameable }
 first_as h known on_storage p i (New taken old_data) entered at = record { first = at.first; place = at.place; nameable = at.nameable }
 
-module _ {S F : Type 0} (view : S → StorageView) (backing : F → BackingView) (old new : Qcow2 S F) (i : ℕ) (p q : Prepared) (enters : EntersMapping i p q old new) (out : List (Option Prepared)) (k : ℕ) (placed : slice_get out k ≡ Some (Some p)) (t : ℕ) (is_table : p.table ≡ Some t)
-    (sound : ImageInvariant view backing (pending_in view backing old out) old out) where
+module _ {S F : Type 0} (view : S → StorageView) (backing : F → BackingView) (old new : Qcow2 S F) (i : ℕ) (p q : Prepared) (enters : EntersMapping i p q old new) (slots : List (Option Prepared)) (k : ℕ) (placed : slice_get slots k ≡ Some (Some p)) (t : ℕ) (is_table : p.table ≡ Some t)
+    (sound : ImageInvariant view backing (pending_in view backing old (in_image slots)) old (in_image slots)) where
+  abbrev out : Mappings
+  out = in_image slots
+
   abbrev h : HeaderFields
   h = old.file.header.fields
 
-  pending : IsPending h (known_in view old.file) (contents_in view old.file) p t
-  pending = subst (IsReadyWith h (known_in view old.file) (contents_in view old.file) p) is_table (sound.ready k p placed).mapped
+  pending : IsPending h out.place (known_in view old.file) (contents_in view old.file) p t
+  pending = subst (IsReadyWith h out.place (known_in view old.file) (contents_in view old.file) p) is_table (sound.ready k p placed).mapped
 
-  stands : IsClusterMappingAt h (known_in view old.file) (contents_in view old.file) p i enters.cluster_mapping
+  stands : IsClusterMappingAt h out.place (known_in view old.file) (contents_in view old.file) p i enters.cluster_mapping
   stands = pending.each i enters.cluster_mapping enters.was
 
   its : HasFirst h p i
@@ -169,7 +173,7 @@ module _ {S F : Type 0} (view : S → StorageView) (backing : F → BackingView)
       )
 
   pub entered_part : CommitsPart view backing old new out k p q
-  entered_part = enters_part view backing old p q t i enters.cluster_mapping is_table enters.was enters.entered enters.clusters enters.mid.file.caches enters.enters.marks enters.enters.order made.0 out k placed sound its.first its.place its.nameable found made.1 stands q enters.mapping new
+  entered_part = enters_part view backing old p q t i enters.cluster_mapping is_table enters.was enters.entered enters.clusters enters.mid.file.caches enters.enters.marks enters.enters.order made.0 slots k placed sound its.first its.place its.nameable found made.1 stands q enters.mapping new
       (enters.lists ∙ ap (λ (m : Qcow2 S F). record m { file = record m.file { free_list = m.file.free_list ++ old_data_by enters.cluster_mapping } }) enters.enters.rest)
 
   -- a change is recorded
@@ -207,7 +211,7 @@ module _ {S F : Type 0} (view : S → StorageView) (backing : F → BackingView)
     pub table : q.table ≡ p.table
     pub count : length q.clusters.items ≡ length p.clusters.items
     pub in_place : (j : ℕ) → j < n → slice_get q.clusters.items j ≡ Some InPlace
-    pub parts : (out : List (Option Prepared)) (k : ℕ) → slice_get out k ≡ Some (Some p) → IsSome p.table → ImageInvariant view backing (pending_in view backing old out) old out
+    pub parts : (out : Mappings) (k : ℕ) → slice_get out.slots k ≡ Some (Some p) → IsSome p.table → ImageInvariant view backing (pending_in view backing old out) old out
         → CommitsPart view backing old now out k p q × (IsTrue entered → IsTrue now.file.caches.is_changed)
     pub notes : KeepsFileNotes view old.file now.file
     pub quiet : DropsNothing p → DropsNothing q × (now.file.free_list ≡ old.file.free_list)
@@ -281,11 +285,11 @@ module _ {S F : Type 0} (view : S → StorageView) (backing : F → BackingView)
           ];
           parts = λ out k placed some sound.
               let before = (first.parts out k placed some sound).0 in
-              let at = get_set_same out k (Some q) (Some p) placed in
-              let there = table_is q.table (subst (λ (x : Option ℕ). IsSome x) (sym first.table) some) in (
-                parts_then view backing out k old now new p q r before (entered_part view backing now new n q r enters (slice_set out k (Some q)) k at there.0 there.1 before.sound),
-                λ _. entered_noted view backing now new n q r enters (slice_set out k (Some q)) k at there.0 there.1 before.sound,
-              );
+              let at = get_set_same out.slots k (Some q) (Some p) placed in
+              let there = table_is q.table (subst (λ (x : Option ℕ). IsSome x) (sym first.table) some) in
+              let next = by_place (λ (o : Mappings). slice_get o.slots k ≡ Some (Some q) → ImageInvariant view backing (pending_in view backing now o) now o → CommitsPart view backing now new o k q r × IsTrue new.file.caches.is_changed) before.sound
+              (λ slots at sound. (entered_part view backing now new n q r enters slots k at there.0 there.1 sound, entered_noted view backing now new n q r enters slots k at there.0 there.1 sound)) at before.sound in
+              (parts_then view backing out k old now new p q r before next.0, λ _. next.1);
           notes = notes_then first.notes (notes_then (table_kept now enters.mid (ap (λ (m : Qcow2 S F). m.file.storage) enters.enters.rest) enters.enters.marks) (same_kept enters.mid new (ap (λ (m : Qcow2 S F). m.file.storage) enters.lists) (ap (λ (m : Qcow2 S F). m.file.caches) enters.lists)));
           quiet = λ none.
               let before = first.quiet none in

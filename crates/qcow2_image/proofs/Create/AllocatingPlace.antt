@@ -1,6 +1,6 @@
 -- A new disk is grown and flushed. If clusters are allocated for it, every moment shows zeros, and each guest cluster gets the mapping of the mode.
 use Rattle.std.proofs.Common.{◌≡◌, ◌⊎◌, ◌<◌, ◌≤◌, ◌∷◌, inl, inr, ⊎_elim, ℕ, true, false, List, [], Option, None, Some, Result, Ok, Err, refl, sym, ap, ◌∙◌, subst, arith, IsTrue, is_some}
-use Rattle.qcow2_image.proofs.Common.{not, option_or, cases_lt, BackingView, StorageView, PreallocateMode, passes_if, passes_on, KeepsHeaderRest, Bytes, byte_at, cover, header, cluster_size, rounded_up, HeaderFields, Uncovered, IsOpened, Stops, EffectOnSound, shows_old, disk, first_zeros, Checkpoint, GivenBytes, StopOkEverywhere, checkpoint_at, Pending, places_of, with_places, with_listed, ImageError, known_in, state_in, view_in, FlushesImage, setting_of, Enlarges, IsNewDisk, IsPreallocated, IsStopOfCreating, IsUnwritten, ShowsZeros, StopsCreating, AllocatesPlace, Qcow2, KeepsFormat, FitsSize, Extends, Lasts, ReachesSize, SameFormat, WritesBack, is_writable, size_of, ImageInvariant, abstract_of, backing_bytes, disk_of, pending_in, CoversStay, refuse_if, GrowsTo, LeavesTables, all_given_by_grow, refuses_to_resize, known_header}
+use Rattle.qcow2_image.proofs.Common.{not, option_or, cases_lt, BackingView, StorageView, PreallocateMode, passes_if, passes_on, KeepsHeaderRest, Bytes, byte_at, cover, header, cluster_size, rounded_up, HeaderFields, Uncovered, IsOpened, Stops, EffectOnSound, shows_old, disk, first_zeros, Checkpoint, GivenBytes, StopOkEverywhere, checkpoint_at, Pending, places_of, with_places, with_listed, ImageError, known_in, state_in, view_in, FlushesImage, setting_of, Enlarges, IsNewDisk, IsPreallocated, IsStopOfCreating, IsUnwritten, ShowsZeros, StopsCreating, AllocatesPlace, Qcow2, KeepsFormat, FitsSize, Extends, Lasts, ReachesSize, SameFormat, WritesBack, is_writable, size_of, ImageInvariant, abstract_of, backing_bytes, disk_of, pending_in, CoversStay, refuse_if, GrowsTo, LeavesTables, all_given_by_grow, refuses_to_resize, known_header, in_image, Image}
 use Rattle.image_access.specs.declared.storage.PreallocateMode.TheVariants as Mode
 use Rattle.qcow2_disk.specs.GrownCovers.{FilledCovers}
 use Rattle.qcow2_alloc.specs.declared.error.ImageError.TheVariants as I
@@ -16,16 +16,16 @@ by_mode P Mode.None shown hidden = shown refl
 by_mode P _ shown hidden = hidden refl
 
 -- whatever a growth answers
-grows_works : {S F : Type 0} (view : S → StorageView) (backing : F → BackingView) (old new : Qcow2 S F) (size : ℕ) (mode : PreallocateMode) (r : Result (Unit {0}) ImageError) → GrowsTo view backing old new size mode r → (abstract_of view backing old []).is_sound
-    → EffectOnSound (abstract_of view backing old []) (abstract_of view backing new []) (all_given_by_grow view backing old size mode) (size ∷ [])
-grows_works view backing old new size mode (Ok x) sees sound = (sees []).acts.works sound
-grows_works view backing old new size mode (Err e) sees sound = (sees []).acts.works sound
+grows_works : {S F : Type 0} (view : S → StorageView) (backing : F → BackingView) (old new : Qcow2 S F) (size : ℕ) (mode : PreallocateMode) (r : Result (Unit {0}) ImageError) → GrowsTo view backing old new size mode r → (abstract_of view backing old (in_image [])).is_sound
+    → EffectOnSound (abstract_of view backing old (in_image [])) (abstract_of view backing new (in_image [])) (all_given_by_grow view backing Image old size mode) (size ∷ [])
+grows_works view backing old new size mode (Ok x) sees sound = (sees (in_image [])).acts.works sound
+grows_works view backing old new size mode (Err e) sees sound = (sees (in_image [])).acts.works sound
 
 -- one format after another
 format_then : (a b c : HeaderFields) → SameFormat a b → SameFormat b c → SameFormat a c
 format_then a b c first then = then ∙ ap (λ h. with_places h (places_of c)) first
 
-module _ {S F : Type 0} (view : S → StorageView) (backing : F → BackingView) (size : ℕ) (old mid : Qcow2 S F) (opened : IsOpened (abstract_of view backing old [])) (writable : IsTrue (is_writable old))
+module _ {S F : Type 0} (view : S → StorageView) (backing : F → BackingView) (size : ℕ) (old mid : Qcow2 S F) (opened : IsOpened (abstract_of view backing old (in_image []))) (writable : IsTrue (is_writable old))
     (unwritten : IsUnwritten 0 (byte_at (view_in view old.file).contents)) where
   abbrev before : Bytes
   before = byte_at (view_in view old.file).contents
@@ -36,7 +36,7 @@ module _ {S F : Type 0} (view : S → StorageView) (backing : F → BackingView)
   usable : refuses_to_resize old ≡ None
   usable =
       let may : is_writable old ≡ true = writable in
-      ap (λ r. option_or r (refuse_if (not (is_writable old)) I.ReadOnly)) (sound_is_usable view backing old [] opened.sound) ∙ ap (λ b. refuse_if (not b) I.ReadOnly) may
+      ap (λ r. option_or r (refuse_if (not (is_writable old)) I.ReadOnly)) (sound_is_usable view backing old (in_image []) opened.sound) ∙ ap (λ b. refuse_if (not b) I.ReadOnly) may
 
   header_is : header before ≡ old.file.header.fields
   header_is = opened.sound.file.caches.kept.kept.crash_invariant.top.header_is
@@ -50,28 +50,28 @@ module _ {S F : Type 0} (view : S → StorageView) (backing : F → BackingView)
   -- ---- clusters are allocated
   module _ (alone : is_some old.backing ≡ false) (mode : PreallocateMode) (hides : shows_old mode ≡ false) where
     abbrev given_bytes : List GivenBytes
-    given_bytes = all_given_by_grow view backing old size mode
+    given_bytes = all_given_by_grow view backing Image old size mode
 
     abbrev so_far : Checkpoint
     so_far = kept_since size below before given_bytes
 
     keeps_zeros : (c : Bytes) → StopOkEverywhere below so_far c → (n : ℕ) → (header c).size ≡ n → ShowsZeros n c
-    keeps_zeros = kept_zeros size below (none_below backing view old.backing alone) before unwritten given_bytes (grow_gives_zeros (setting_of view backing old) (disk_of view backing old) size mode)
+    keeps_zeros = kept_zeros size below (none_below backing view old.backing alone) before unwritten given_bytes (grow_gives_zeros (setting_of view backing old) (disk_of view backing Image old) size mode)
 
     keeps_either : (c : Bytes) → StopOkEverywhere below so_far c → IsStopOfCreating mode size c
     keeps_either c kept =
         ⊎_elim (λ none. inr (inl (zeros_new mode 0 c hides none))) (λ some. inr (inr (zeros_new mode size c hides some)))
-        (kept_either size below (none_below backing view old.backing alone) before unwritten given_bytes (grow_gives_zeros (setting_of view backing old) (disk_of view backing old) size mode) c kept)
+        (kept_either size below (none_below backing view old.backing alone) before unwritten given_bytes (grow_gives_zeros (setting_of view backing old) (disk_of view backing Image old) size mode) c kept)
 
-    module _ (works : EffectOnSound (abstract_of view backing old []) (abstract_of view backing mid []) given_bytes (size ∷ [])) where
-      stops : Stops (abstract_of view backing old []) (abstract_of view backing mid []) given_bytes (size ∷ []) (checkpoint_at (disk before below) before)
+    module _ (works : EffectOnSound (abstract_of view backing old (in_image [])) (abstract_of view backing mid (in_image [])) given_bytes (size ∷ [])) where
+      stops : Stops (abstract_of view backing old (in_image [])) (abstract_of view backing mid (in_image [])) given_bytes (size ∷ []) (checkpoint_at (disk before below) before)
       stops = works.stops (checkpoint_at (disk before below) before) (starts_unwritten below before unwritten, subst (StopOkEverywhere below (checkpoint_at (disk before below) before)) (sym opened.clean) (starts_unwritten below before unwritten))
 
       taking_stops : StopsCreating mode size (view_in view old.file) (view_in view mid.file)
       taking_stops = passes_if (λ c. IsStopOfCreating mode size (byte_at c)) (λ c kept. keeps_either (byte_at c) kept) stops.moments
 
       -- and flushed
-      module _ (sound : (abstract_of view backing mid []).is_sound) (new : Qcow2 S F) (lasts : Lasts view mid new []) where
+      module _ (sound : (abstract_of view backing mid (in_image [])).is_sound) (new : Qcow2 S F) (lasts : Lasts view mid new []) where
         flush_stops : StopsCreating mode size (view_in view mid.file) (view_in view new.file)
         flush_stops = passes_if (λ c. IsStopOfCreating mode size (byte_at c)) (λ c kept. keeps_either (byte_at c) (kept below so_far stops.contents (stops.known sound))) lasts.moments
 
@@ -95,7 +95,7 @@ module _ {S F : Type 0} (view : S → StorageView) (backing : F → BackingView)
     larger : 0 < size → size_of old < size
     larger lt = omega (arith, lt, no_bytes)
 
-    leaves : 0 < size → LeavesTables view backing mode size old mid []
+    leaves : 0 < size → LeavesTables view backing mode size old mid (in_image [])
     leaves lt = takes.tables usable (larger lt) opened.sound
 
     size_mid : size_of mid ≡ size
@@ -132,11 +132,11 @@ module _ {S F : Type 0} (view : S → StorageView) (backing : F → BackingView)
     abbrev known : Bytes
     known = known_in view mid.file
 
-    sound_mid : (abstract_of view backing mid []).is_sound
-    sound_mid = ((takes.sees []).answer opened.sound).0
+    sound_mid : (abstract_of view backing mid (in_image [])).is_sound
+    sound_mid = ((takes.sees (in_image [])).answer opened.sound).0
 
     known_is : header known ≡ mid.file.header.fields
-    known_is = known_header (state_in view mid.file (pending_in view backing mid [])) sound_mid.file.caches.kept.kept.crash_invariant
+    known_is = known_header (state_in view mid.file (pending_in view backing mid (in_image []))) sound_mid.file.caches.kept.kept.crash_invariant
 
     uncovered_still : shows_old mode ≡ true → (g : ℕ) → cover (header known) known g ≡ Uncovered
     uncovered_still shows g =
@@ -158,7 +158,7 @@ module _ {S F : Type 0} (view : S → StorageView) (backing : F → BackingView)
         (λ shows. unwritten_as 0 before known (size ∷ []) unwritten (λ below m ok. ((takes.last opened.sound).lasts shows).known below m ok (subst (StopOkEverywhere below m) (sym opened.clean) ok)) size is)
         (λ hides. elim which [
           | inl shows ↦ absurd (let no : true ≡ false = sym shows ∙ hides in cc)
-          | inr alone ↦ zeros_new mode size known hides (keeps_zeros alone mode hides known ((stops alone mode hides ((takes.sees []).acts.works opened.sound)).known sound_mid) size is)
+          | inr alone ↦ zeros_new mode size known hides (keeps_zeros alone mode hides known ((stops alone mode hides ((takes.sees (in_image [])).acts.works opened.sound)).known sound_mid) size is)
         ])
 
     module _ (new : Qcow2 S F) (p : Pending) (written : Extends view backing p mid new × KeepsFormat mid.file.header.fields new.file.header.fields × CoversStay mid.file.header.fields (known_in view mid.file) new.file.header.fields (known_in view new.file))
@@ -192,8 +192,8 @@ module _ {S F : Type 0} (view : S → StorageView) (backing : F → BackingView)
 
       stands_hidden : is_some old.backing ≡ false → shows_old mode ≡ false → Enlarges mode size (view_in view old.file) (view_in view new.file) (Ok tt)
       stands_hidden alone hides =
-          let sound = (takes.sees []).answer opened.sound in
-          let works = (takes.sees []).acts.works opened.sound in
+          let sound = (takes.sees (in_image [])).answer opened.sound in
+          let works = (takes.sees (in_image [])).acts.works opened.sound in
           stands mode (taken_stops alone mode hides works sound.0 new written.0.since) (zeros_new mode size after hides (taken_zeros alone mode hides works sound.0 new written.0.since size_new))
           (covers_then hides after (ap (λ (h : HeaderFields). cluster_size h) (new_is ∙ format_new)) stay_stored) (taken_rest alone mode hides works sound.0 new written.0.since)
 
@@ -214,21 +214,21 @@ module _ {S F : Type 0} (view : S → StorageView) (backing : F → BackingView)
 
   -- by the flush's own answer
   pub grown_by : is_some old.backing ≡ false → (mode : PreallocateMode) (x : Unit {0}) → AllocatesPlace view backing mode old mid size (Ok x) → (new : Qcow2 S F) (r : Result (Unit {0}) ImageError) → size_of new ≡ size_of mid → FlushesImage view backing mid new r
-      → ((p : Pending) → ImageInvariant view backing (with_listed p mid.file.free_list) mid [] → WritesBack view backing p mid new r) → Enlarges mode size (view_in view old.file) (view_in view new.file) r
-  grown_by alone mode x takes new r stays flushes writes = ends r flushes (writes (beside view backing mid []) (subst (λ (p : Pending). ImageInvariant view backing p mid []) (all_listed view backing mid []) sound))
+      → ((p : Pending) → ImageInvariant view backing (with_listed p mid.file.free_list) mid (in_image []) → WritesBack view backing p mid new r) → Enlarges mode size (view_in view old.file) (view_in view new.file) r
+  grown_by alone mode x takes new r stays flushes writes = ends r flushes (writes (beside view backing mid (in_image [])) (subst (λ (p : Pending). ImageInvariant view backing p mid (in_image [])) (all_listed view backing mid (in_image [])) sound))
     where
-      sound : (abstract_of view backing mid []).is_sound
-      sound = ((takes.sees []).answer opened.sound).0
+      sound : (abstract_of view backing mid (in_image [])).is_sound
+      sound = ((takes.sees (in_image [])).answer opened.sound).0
 
       lasts_so : Lasts view mid new [] → shows_old mode ≡ true → Lasts view old new (size ∷ [])
       lasts_so lasts shows = lasts_then view old mid new (size ∷ []) [] ((takes.last opened.sound).lasts shows) lasts
 
-      ends : (s : Result (Unit {0}) ImageError) → FlushesImage view backing mid new s → WritesBack view backing (beside view backing mid []) mid new s → Enlarges mode size (view_in view old.file) (view_in view new.file) s
+      ends : (s : Result (Unit {0}) ImageError) → FlushesImage view backing mid new s → WritesBack view backing (beside view backing mid (in_image [])) mid new s → Enlarges mode size (view_in view old.file) (view_in view new.file) s
       ends (Ok y) flushes written =
-          let p = with_listed (beside view backing mid []) new.file.free_list in
-          let clean = ((flushes []).answer sound).1.0 in
+          let p = with_listed (beside view backing mid (in_image [])) new.file.free_list in
+          let clean = ((flushes (in_image [])).answer sound).1.0 in
           by_mode (λ m. Enlarges m size (view_in view old.file) (view_in view new.file) (Ok tt)) mode
           (λ shows. stands_shown mode x takes new p written stays clean (lasts_so written.0.since shows))
           (λ hides. stands_hidden mode x takes new p written stays clean alone hides)
       ends (Err e) flushes lasts = by_mode (λ m. StopsCreating m size (view_in view old.file) (view_in view new.file)) mode
-          (λ shows. shown_stops new (lasts_so lasts shows)) (λ hides. taken_stops alone mode hides ((takes.sees []).acts.works opened.sound) sound new lasts)
+          (λ shows. shown_stops new (lasts_so lasts shows)) (λ hides. taken_stops alone mode hides ((takes.sees (in_image [])).acts.works opened.sound) sound new lasts)

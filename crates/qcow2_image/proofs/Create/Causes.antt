@@ -1,6 +1,6 @@
 -- Why an image is not created: the refusals of its parts, and when a fault of the storage is reported.
 use Rattle.std.proofs.Common.{◌≡◌, ◌≢◌, ◌⊎◌, ◌+◌, ◌^◌, ◌<◌, ◌≤◌, [], inl, inr, ℕ, true, Option, Some, None, Result, Ok, Err, refl, sym, ap, ◌∙◌, subst, arith, IfErr, IsTrue}
-use Rattle.qcow2_image.proofs.Common.{not, option_or, bit_at, trailing_zeros, w64, cases_eq, cases_lt, pow-add, pow_pos, pow_mono, BackingView, StorageView, rose_since, ImageError, byte_at, header, CanBeNew, IsConsistent, IsNewImage, new_image_consistent, IsOpened, FaultsReported, IsFault, Qcow2, CountsImageFaults, faults_beside, is_writable, storage_of_image, abstract_of, faults_below, HasLogarithms, IsAllowed, IsReasonAgainst, backing_format_in, backing_name_in, data_file_name_in, IsCreated, IsReasonNotToCreate, IsReasonNotToCreateOpen, LacksPlaceCreating, longest_disk, Qcow2CreateBuilder, IsJustifiedRefusal, OpensRightly, IsFaultOrLimit, MayFail, IsUnlimited, refuse_if, refuses_to_resize}
+use Rattle.qcow2_image.proofs.Common.{not, option_or, bit_at, trailing_zeros, w64, cases_eq, cases_lt, pow-add, pow_pos, pow_mono, BackingView, StorageView, rose_since, ImageError, byte_at, header, CanBeNew, IsConsistent, IsNewImage, new_image_consistent, IsOpened, FaultsReported, IsFault, Qcow2, CountsImageFaults, faults_beside, is_writable, storage_of_image, abstract_of, faults_below, HasLogarithms, IsAllowed, IsReasonAgainst, backing_format_in, backing_name_in, data_file_name_in, IsCreated, IsReasonNotToCreate, IsReasonNotToCreateOpen, LacksPlaceCreating, longest_disk, Qcow2CreateBuilder, IsJustifiedRefusal, OpensRightly, IsFaultOrLimit, MayFail, IsUnlimited, refuse_if, refuses_to_resize, in_image}
 use Rattle.std.proofs.lemmas.Nat.Bits.{bit_at-pow_other, bit_at-pow_same, bit_at-trailing_zeros}
 use Rattle.qcow2_alloc.specs.declared.error.ImageError.TheVariants as I
 use Rattle.qcow2_image.proofs.Images.Sizes.{sound_is_usable}
@@ -62,10 +62,10 @@ module _ {S F : Type 0} (view : S → StorageView) where
 -- ---- the whole call
 
 -- an opened image that is writable isn't refused another size
-pub usable_opened : {S F : Type 0} (view : S → StorageView) (backing : F → BackingView) (image : Qcow2 S F) → IsOpened (abstract_of view backing image []) → IsTrue (is_writable image) → refuses_to_resize image ≡ None
+pub usable_opened : {S F : Type 0} (view : S → StorageView) (backing : F → BackingView) (image : Qcow2 S F) → IsOpened (abstract_of view backing image (in_image [])) → IsTrue (is_writable image) → refuses_to_resize image ≡ None
 usable_opened view backing image opened writable =
     let may : is_writable image ≡ true = writable in
-    ap (λ r. option_or r (refuse_if (not (is_writable image)) I.ReadOnly)) (sound_is_usable view backing image [] opened.sound) ∙ ap (λ b. refuse_if (not b) I.ReadOnly) may
+    ap (λ r. option_or r (refuse_if (not (is_writable image)) I.ReadOnly)) (sound_is_usable view backing image (in_image []) opened.sound) ∙ ap (λ b. refuse_if (not b) I.ReadOnly) may
 
 -- a power of two is that of one number alone
 same_power : (a b : ℕ) → 2 ^ a ≡ 2 ^ b → a ≡ b

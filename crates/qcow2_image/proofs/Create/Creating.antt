@@ -1,6 +1,6 @@
 -- An unwritten image is opened, grown and flushed: what a stop leaves meanwhile, and what the storage holds then.
 use Rattle.std.proofs.Common.{◌≡◌, ◌+◌, length, ◌⊎◌, ◌^◌, ◌∷◌, ◌++◌, inl, inr, ⊎_elim, ℕ, List, [], None, Some, Result, Ok, Err, refl, sym, ap, ◌∙◌, subst, arith, false, IfOk, Option, is_some}
-use Rattle.qcow2_image.proofs.Common.{name_place, unwrap_or, OnOk, option_map, BackingView, StorageView, EachMomentSince, IsLeftBy, PreallocateMode, passes_on, passes_if, IsHeaderIn, KeepsHeaderRest, Bytes, byte_at, HeaderFields, HeaderView, header, new_header, new_fields, HasNewNames, disk, disk_with, SafeThroughout, Checkpoint, checkpoint_at, checkpoint_with, IsAsked, StopOkEverywhere, LeavesKept, IsNewImage, HasNoLeaks, places_of, with_places, IsOpened, ImageError, nothing_given, view_in, Qcow2CreateBuilder, Qcow2, backing_format_in, backing_name_in, IsUnwritten, IsStopOfCreating, StopsCreating, StaysCreating, IsNewHeader, IsCreated, Enlarges, IsMade, IsThreeWith, WritesThree, FitsSize, SameFormat, ReachesSize, storage_of_image, IsKeptSince, needs_another, abstract_of, header_rest_same, header_rest_then, new_image_exact}
+use Rattle.qcow2_image.proofs.Common.{name_place, unwrap_or, OnOk, option_map, BackingView, StorageView, EachMomentSince, IsLeftBy, PreallocateMode, passes_on, passes_if, IsHeaderIn, KeepsHeaderRest, Bytes, byte_at, HeaderFields, HeaderView, header, new_header, new_fields, HasNewNames, disk, disk_with, SafeThroughout, Checkpoint, checkpoint_at, checkpoint_with, IsAsked, StopOkEverywhere, LeavesKept, IsNewImage, HasNoLeaks, places_of, with_places, IsOpened, ImageError, nothing_given, view_in, Qcow2CreateBuilder, Qcow2, backing_format_in, backing_name_in, IsUnwritten, IsStopOfCreating, StopsCreating, StaysCreating, IsNewHeader, IsCreated, Enlarges, IsMade, IsThreeWith, WritesThree, FitsSize, SameFormat, ReachesSize, storage_of_image, IsKeptSince, needs_another, abstract_of, header_rest_same, header_rest_then, new_image_exact, in_image}
 use Rattle.std.specs.String.{string_bytes}
 use Rattle.image_access.specs.declared.storage.PreallocateMode.TheVariants as Mode
 use Rattle.qcow2_image.proofs.Open.SameHeaders.{alone_still, names_still, not_needed}
@@ -73,7 +73,7 @@ format_stored h h' k k' is is' format = subst (λ x. SameFormat x h') (sym is) (
 
 -- ---- it was opened before that
 module _ {S F : Type 0} (view : S → StorageView) (backing : F → BackingView) (mode : PreallocateMode) (size : ℕ) (start : S) (mid : Qcow2 S F) (unwritten : IsUnwritten 0 (byte_at (view start).contents)) (since : IsKeptSince (view start) (view (storage_of_image mid)))
-    (opened : IsOpened (abstract_of view backing mid [])) (format : SameFormat (header (byte_at (view start).contents)) mid.file.header.fields)
+    (opened : IsOpened (abstract_of view backing mid (in_image []))) (format : SameFormat (header (byte_at (view start).contents)) mid.file.header.fields)
     (uncleared : (header (byte_at (view start).contents)).autoclear ≡ 0 → (view_in view mid.file).contents ≡ (view start).contents) where
   pub unwritten_mid : IsUnwritten 0 (byte_at (view_in view mid.file).contents)
   unwritten_mid = opens_unwritten 0 (view start) (view_in view mid.file) unwritten since

@@ -1,6 +1,6 @@
 -- Creating is refused only for a limit or a fault.
 use Rattle.std.proofs.Common.{◌≡◌, ◌⊎◌, ◌<◌, ◌≤◌, inl, inr, ℕ, true, false, List, [], Result, Ok, Err, refl, sym, ap, ◌∙◌, subst, arith, IfErr, IsTrue, is_some}
-use Rattle.qcow2_image.proofs.Common.{cases_lt, BackingView, StorageView, PreallocateMode, Bytes, byte_at, IsConsistent, cover, header, HasAlignedTables, MetadataError, HeaderFields, L2Mapping, Uncovered, IsOpened, IsCompressed, IsFault, of_metadata, known_in, view_in, ImageError, HasPinnedMapping, IsUnmapped, IsUnwritten, SameFormat, size_of, abstract_of, MayFailGrowing, IsJustifiedRefusal, IsTableRefused, IsFaultOrLimit, takes_over, Qcow2, IfErr-weaker}
+use Rattle.qcow2_image.proofs.Common.{cases_lt, BackingView, StorageView, PreallocateMode, Bytes, byte_at, IsConsistent, cover, header, HasAlignedTables, MetadataError, HeaderFields, L2Mapping, Uncovered, IsOpened, IsCompressed, IsFault, of_metadata, known_in, view_in, ImageError, HasPinnedMapping, IsUnmapped, IsUnwritten, SameFormat, size_of, abstract_of, MayFailGrowing, IsJustifiedRefusal, IsTableRefused, IsFaultOrLimit, takes_over, Qcow2, IfErr-weaker, in_image}
 use Rattle.image_access.specs.declared.storage.PreallocateMode.TheVariants as Mode
 use Rattle.qcow2_metadata.specs.declared.error.MetadataError.TheVariants as M
 use Rattle.qcow2_alloc.specs.declared.error.ImageError.TheVariants as I
@@ -40,11 +40,11 @@ takes_none image Mode.None alone takes = absurd (let bad : false ≡ true = take
 takes_none image Mode.Zero alone takes = absurd (let bad : false ≡ true = takes in cc)
 takes_none image _ alone takes = absurd (let bad : false ≡ true = sym alone ∙ takes in cc)
 
-pub none_prepared : HasPinnedMapping [] → ⊥
+pub none_prepared : HasPinnedMapping (in_image []) → ⊥
 none_prepared some = absurd (let none = some.there in cc)
 
 module _ {S F : Type 0} (view : S → StorageView) (old : Qcow2 S F) (unmapped : IsUnmapped view old) where
-  filling_fault : (mode : PreallocateMode) (from to : ℕ) (e : ImageError) → MayFailGrowing [] mode from to old.file.header.fields (known_in view old.file) e → IsFaultOrLimit e
+  filling_fault : (mode : PreallocateMode) (from to : ℕ) (e : ImageError) → MayFailGrowing (in_image []) mode from to old.file.header.fields (known_in view old.file) e → IsFaultOrLimit e
   filling_fault mode from to e may_fail = elim may_fail [
     | inl taking ↦ elim taking [
       | inl alone ↦ elim alone [
@@ -57,7 +57,7 @@ module _ {S F : Type 0} (view : S → StorageView) (old : Qcow2 S F) (unmapped :
   ]
 
   pub grown_refused : (new : Qcow2 S F) (size to : ℕ) (mode : PreallocateMode) (r : Result (Unit {0}) ImageError) → (size ≤ size_of old → (r ≡ Ok tt) × (new ≡ old))
-      → (size_of old < size → IfErr r (λ e. MayFailGrowing [] mode (size_of old) to old.file.header.fields (known_in view old.file) e ⊎ ((e ≡ I.Preallocation) × IsTrue (takes_over old mode))))
+      → (size_of old < size → IfErr r (λ e. MayFailGrowing (in_image []) mode (size_of old) to old.file.header.fields (known_in view old.file) e ⊎ ((e ≡ I.Preallocation) × IsTrue (takes_over old mode))))
       → IfErr r (λ e. IsFaultOrLimit e ⊎ ((e ≡ I.Preallocation) × IsTrue (takes_over old mode)))
   grown_refused new size to mode (Ok x) no_larger may_fail = tt
   grown_refused new size to mode (Err e) no_larger may_fail = elim (cases_lt (size_of old) size) [
@@ -66,11 +66,11 @@ module _ {S F : Type 0} (view : S → StorageView) (old : Qcow2 S F) (unmapped :
   ]
 
   pub grown_fault : (new : Qcow2 S F) (size to : ℕ) (mode : PreallocateMode) (r : Result (Unit {0}) ImageError) → is_some old.backing ≡ false → (size ≤ size_of old → (r ≡ Ok tt) × (new ≡ old))
-      → (size_of old < size → IfErr r (λ e. MayFailGrowing [] mode (size_of old) to old.file.header.fields (known_in view old.file) e ⊎ ((e ≡ I.Preallocation) × IsTrue (takes_over old mode)))) → IfErr r IsFaultOrLimit
+      → (size_of old < size → IfErr r (λ e. MayFailGrowing (in_image []) mode (size_of old) to old.file.header.fields (known_in view old.file) e ⊎ ((e ≡ I.Preallocation) × IsTrue (takes_over old mode)))) → IfErr r IsFaultOrLimit
   grown_fault new size to mode r alone no_larger may_fail = IfErr-weaker r _ _ (λ e why. elim why [ inl fault ↦ fault | inr over ↦ absurd (takes_none old mode alone over.1) ]) (grown_refused new size to mode r no_larger may_fail)
 
 -- an unwritten image of version 3 was opened
-pub unmapped_opened : {S F : Type 0} (view : S → StorageView) (backing : F → BackingView) (image : Qcow2 S F) (h : HeaderFields) (n : ℕ) → IsOpened (abstract_of view backing image []) → IsUnwritten n (byte_at (view_in view image.file).contents)
+pub unmapped_opened : {S F : Type 0} (view : S → StorageView) (backing : F → BackingView) (image : Qcow2 S F) (h : HeaderFields) (n : ℕ) → IsOpened (abstract_of view backing image (in_image [])) → IsUnwritten n (byte_at (view_in view image.file).contents)
     → h.version ≡ 3 → SameFormat h image.file.header.fields → IsUnmapped view image
 unmapped_opened view backing image h n opened unwritten third format =
     let b = byte_at (view_in view image.file).contents in

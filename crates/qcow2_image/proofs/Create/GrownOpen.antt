@@ -1,6 +1,6 @@
 -- A new image is opened by the builder that a closure returned for its storage, and its disk is grown: what it holds, and what a stop leaves.
 use Rattle.std.proofs.Common.{◌≡◌, ◌⊎◌, inl, inr, ℕ, List, [], None, Option, Result, Ok, true, false, ap, ◌∙◌, subst, sym, IfErr, IsTrue, is_some}
-use Rattle.qcow2_image.proofs.Common.{option_flatten, BackingView, StorageView, passes_on, byte_at, header, HeaderFields, shows_old, known_in, view_in, ImageError, TablesBehindHeader, HoldsNewDisk, IsCreated, IsNewDisk, IsStopOfCreating, IsUnwritten, OpensGrown, StopsCreating, empty_of, IsHonestBacking, IsKeptSince, IsOpenedFrom, Opens, IsNewlyOpened, OpeningStep, files_missing, IsFaultOrLimit, takes_over, Qcow2CreateBuilder, Qcow2, Qcow2OpenBuilder}
+use Rattle.qcow2_image.proofs.Common.{option_flatten, BackingView, StorageView, passes_on, byte_at, header, HeaderFields, shows_old, known_in, view_in, ImageError, TablesBehindHeader, HoldsNewDisk, IsCreated, IsNewDisk, IsStopOfCreating, IsUnwritten, OpensGrown, StopsCreating, empty_of, IsHonestBacking, IsKeptSince, IsOpenedFrom, Opens, IsNewlyOpened, OpeningStep, files_missing, IsFaultOrLimit, takes_over, Qcow2CreateBuilder, Qcow2, Qcow2OpenBuilder, in_image}
 use Rattle.image_access.specs.declared.storage.PreallocateMode.TheVariants as Mode
 use Rattle.qcow2_alloc.specs.declared.error.ImageError.TheVariants as I
 use Rattle.qcow2_image.proofs.Lemmas.{usable_opened, opening_stops, opens_unwritten, stops_at_none, grown_refused, unmapped_opened}
@@ -51,7 +51,7 @@ module _ {S F : Type 0} (view : S → StorageView) (backing : F → BackingView)
     grown_holds =
         let opened = (from (Ok tt) grown).opened in
         let keeps = surplus_taken view backing grown.opened image builder.size builder.preallocate (Ok tt) opened.sound (grown.takes.no_larger (usable_opened view backing grown.opened opened grown.new.writable_is)) grown.takes.image grown.takes.sees in
-        let acts = (grown.takes.sees []).acts in
+        let acts = (grown.takes.sees (in_image [])).acts in
         let format = format_mid view backing builder.size grown.opened image opened grown.new.writable_is (still (Ok tt) grown) builder.preallocate tt grown.takes in
         let new = subst (λ (s : S). IsNewlyOpened (view s) true opener.number grown.opened) same grown.new in
         let lies = lies_if view backing (view storage).is_honest (view storage) (Ok grown.opened) (λ h. (h, (unwritten (Ok tt) grown).consistent)) (subst (λ (s : S). Opens view backing (view s) grown.opened) same (grown.opens honest alone)) new.header_cluster (inl made.honest) in

@@ -1,6 +1,6 @@
 -- Listed clusters are freed, which guests don't see.
 use Rattle.std.proofs.Common.{◌≡◌, ◌<◌, ⊎_elim, inl, inr, ℕ, Bool, false, List, [], Option, Some, refl, sym, ap, ◌∙◌, subst, arith, Result, Ok, Err, IfOk, IfErr, IsTrue}
-use Rattle.qcow2_image.proofs.Common.{is_changed_of, or_right, BackingView, StorageView, Pending, AnsweredEffect, IsRefusalByFault, IsSame, SafeStep, stored_bytes, format_same, format_then, safe_step_then, steps_safe_throughout, unseen_then, Allocator, ImageError, ImageFile, Frees, l2_pins, with_listed, state_in, view_in, contents_in, known_in, nothing_given, file_step_on, pending_same, freed_kept, KeepsNoFreeBelowHint, Qcow2, Prepared, EndsFreeing, RefusedCall, InternalCall, InternalStep, InternalFreeingStep, FreesListed, FlushesImage, refusal_of, number_of, is_failed, has_noted_change, leaked_by, leaked_in, ImageInvariant, pending_in, abstract_of}
+use Rattle.qcow2_image.proofs.Common.{is_changed_of, or_right, BackingView, StorageView, Pending, AnsweredEffect, IsRefusalByFault, IsSame, SafeStep, stored_bytes, format_same, format_then, safe_step_then, steps_safe_throughout, unseen_then, Allocator, ImageError, ImageFile, Frees, l2_pins, with_listed, state_in, view_in, contents_in, known_in, nothing_given, file_step_on, pending_same, freed_kept, KeepsNoFreeBelowHint, Qcow2, Prepared, EndsFreeing, RefusedCall, InternalCall, InternalStep, InternalFreeingStep, FreesListed, FlushesImage, refusal_of, number_of, is_failed, has_noted_change, leaked_by, leaked_in, ImageInvariant, pending_in, abstract_of, Mappings}
 use Rattle.qcow2_alloc.specs.ImageError.{IsFault as FaultOfTables}
 use Rattle.qcow2_alloc.specs.declared.error.ImageError.TheVariants as I
 use Rattle.qcow2_image.proofs.Call.Marked.{MayMarkBy}
@@ -12,7 +12,7 @@ use Rattle.qcow2_image.proofs.Call.CallOutcomes.{outcome_answered}
 use Rattle.qcow2_image.proofs.Images.UngivenCovers.{all_stay}
 use Rattle.qcow2_image.proofs.Images.Moved.{format_stay}
 
-module _ {S F : Type 0} (view : S → StorageView) (backing : F → BackingView) (out : List (Option Prepared)) where
+module _ {S F : Type 0} (view : S → StorageView) (backing : F → BackingView) (out : Mappings) where
   pub freeing_step_then : (a b c : Qcow2 S F) (p q r : Pending) → ((k : ℕ) → 0 < p.new_data k → 0 < q.new_data k) → InternalFreeingStep view backing p q a b out → InternalFreeingStep view backing q r b c out → InternalFreeingStep view backing p r a c out
   freeing_step_then a b c p q r new_data first then = record {
     sound = then.sound;
@@ -76,7 +76,7 @@ module _ {S F : Type 0} (view : S → StorageView) (backing : F → BackingView)
 
 -- ---- a whole call
 
-module _ {S F : Type 0} (view : S → StorageView) (backing : F → BackingView) (old : Qcow2 S F) (out : List (Option Prepared)) where
+module _ {S F : Type 0} (view : S → StorageView) (backing : F → BackingView) (old : Qcow2 S F) (out : Mappings) where
   -- what is pending beside the list
   abbrev pub beside : Pending
   beside = record (pending_in view backing old out) { old_tables = λ k. 0; old_data = λ k. 0 }
@@ -107,7 +107,7 @@ module _ {S F : Type 0} (view : S → StorageView) (backing : F → BackingView)
 module _ {S F : Type 0} (view : S → StorageView) (backing : F → BackingView) (old : Qcow2 S F) (usable : is_failed old ≡ false) (new : Qcow2 S F) (marked : Bool) (number : number_of new ≡ number_of old) where
   -- all that is known is written, and nothing is left of it; or it was refused
   pub flushes_with_outcome : (r : Result (Unit {0}) ImageError) → MayMarkBy r (is_failed new) marked → IfErr r (λ e. e ≡ I.Memory → IsTrue (has_noted_change new) → IsTrue marked)
-      → ((out : List (Option Prepared)) → ImageInvariant view backing (pending_in view backing old out) old out → FreesListed view backing (beside view backing old out) old new out r)
+      → ((out : Mappings) → ImageInvariant view backing (pending_in view backing old out) old out → FreesListed view backing (beside view backing old out) old new out r)
       → IfOk r (λ done. known_in view new.file ≡ contents_in view new.file) → FlushesImage view backing old (record new { is_failed = marked }) r
   flushes_with_outcome (Ok done) marks memory frees written = λ out.
       let stays : ImageInvariant view backing (pending_in view backing old out) old out → InternalCall view backing old new out = λ sound. tidy_stays view backing old out new sound (frees out sound) in
@@ -116,7 +116,7 @@ module _ {S F : Type 0} (view : S → StorageView) (backing : F → BackingView)
   flushes_with_outcome (Err e) marks memory frees written = λ out. refuses_left view backing out old usable new marked number e marks memory (λ sound. freed_refused view backing old out new e sound (frees out sound))
 
   -- at the end of a call
-  module _ (out : List (Option Prepared)) (sound : ImageInvariant view backing (pending_in view backing old out) old out) where
+  module _ (out : Mappings) (sound : ImageInvariant view backing (pending_in view backing old out) old out) where
     pub ends_freeing : (r : Result (Unit {0}) ImageError) → MayMarkBy r (is_failed new) marked → IfErr r (λ e. e ≡ I.Memory → IsTrue (has_noted_change new) → IsTrue marked) → (IsTrue old.file.caches.is_changed → IsTrue new.file.caches.is_changed)
         → IfErr r FaultOfTables → FreesListed view backing (beside view backing old out) old new out r → EndsFreeing view backing old (record new { is_failed = marked }) out r
     ends_freeing (Ok done) marks memory recorded fault frees =

@@ -1,6 +1,6 @@
 -- Growing over every disk below, part by part, and what flushing leaves.
 use Rattle.std.proofs.Common.{◌≡◌, ◌-◌, ◌*◌, ◌/◌, ◌<◌, ◌≤◌, ◌∷◌, ◌++◌, inl, inr, ℕ, List, [], Option, Result, Ok, Err, Bool, true, refl, sym, ap, subst, arith}
-use Rattle.qcow2_image.proofs.Common.{div-lt_iff_lt-mul, BackingView, StorageView, passes_none, PreallocateMode, byte_at, HeaderFields, cluster_size, entries_per_cluster, shows_old, Checkpoint, StopOkEverywhere, checkpoint_with, Pending, guests, SafeStep, places_of, with_places, Sizes, more_twice, safe_throughout_asking, safe_throughout_then, with_listed, known_in, nothing_given, state_in, view_in, ImageError, Extends, Lasts, LastsCall, LastsKnown, LastsPart, WritesBack, is_failed, with_marks, FreesListed, InternalFreeingStep, RefusedMove, Qcow2, Prepared}
+use Rattle.qcow2_image.proofs.Common.{div-lt_iff_lt-mul, BackingView, StorageView, passes_none, PreallocateMode, byte_at, HeaderFields, cluster_size, entries_per_cluster, shows_old, Checkpoint, StopOkEverywhere, checkpoint_with, Pending, guests, SafeStep, places_of, with_places, Sizes, more_twice, safe_throughout_asking, safe_throughout_then, with_listed, known_in, nothing_given, state_in, view_in, ImageError, Extends, Lasts, LastsCall, LastsKnown, LastsPart, WritesBack, is_failed, with_marks, FreesListed, InternalFreeingStep, RefusedMove, Qcow2, Prepared, Mappings, in_image}
 use Rattle.image_access.specs.declared.storage.PreallocateMode.TheVariants as Mode
 use Rattle.qcow2_disk.proofs.Stops.{kept_more}
 use Rattle.qcow2_image.proofs.Call.Marked.{MayMarkBy}
@@ -63,7 +63,7 @@ module _ {S F : Type 0} (view : S → StorageView) where
   call_marked a b recorded failed size (Ok x) lasts = record { since = lasts.since; known = lasts.known }
   call_marked a b recorded failed size (Err e) lasts = lasts
 
-  module _ (backing : F → BackingView) (out : List (Option Prepared)) where
+  module _ (backing : F → BackingView) (out : Mappings) where
     -- a longer L1 table
     pub moved_part : (p q : Pending) (a b : Qcow2 S F) (e : ImageError) → RefusedMove view backing p a b out e → LastsPart view a b (Err e)
     moved_part p q a b e left = elim left [
@@ -85,7 +85,7 @@ module _ {S F : Type 0} (view : S → StorageView) where
 
 module _ {S F : Type 0} (view : S → StorageView) (backing : F → BackingView) where
   -- ---- what is listed is freed, and all tables are written
-  extends_tidying : (p q : Pending) (a b : Qcow2 S F) → InternalFreeingStep view backing p q a b [] → Extends view backing q a b
+  extends_tidying : (p q : Pending) (a b : Qcow2 S F) → InternalFreeingStep view backing p q a b (in_image []) → Extends view backing q a b
   extends_tidying p q a b freeing_step = record {
     sound = freeing_step.sound;
     since = freeing_step.since;
@@ -93,12 +93,12 @@ module _ {S F : Type 0} (view : S → StorageView) (backing : F → BackingView)
     autoclear = ap (λ (h : HeaderFields). h.autoclear) freeing_step.unseen.header;
   }
 
-  pub written_back : (p : Pending) (old big new : Qcow2 S F) (done r : Result (Unit {0}) ImageError) → FreesListed view backing p old big [] done → r ≡ done → new ≡ record big { is_failed = is_failed new } → MayMarkBy done (is_failed big) (is_failed new)
+  pub written_back : (p : Pending) (old big new : Qcow2 S F) (done r : Result (Unit {0}) ImageError) → FreesListed view backing p old big (in_image []) done → r ≡ done → new ≡ record big { is_failed = is_failed new } → MayMarkBy done (is_failed big) (is_failed new)
       → WritesBack view backing p old new r
   written_back p old big new done r frees answer rest marks =
       subst (λ (s : Result (Unit {0}) ImageError). WritesBack view backing p old new s) (sym answer) (subst (λ (i : Qcow2 S F). WritesBack view backing p old i done) (sym rest) (back done (is_failed new) marks frees))
     where
-      back : (s : Result (Unit {0}) ImageError) (failed : Bool) → MayMarkBy s (is_failed big) failed → FreesListed view backing p old big [] s → WritesBack view backing p old (record big { is_failed = failed }) s
+      back : (s : Result (Unit {0}) ImageError) (failed : Bool) → MayMarkBy s (is_failed big) failed → FreesListed view backing p old big (in_image []) s → WritesBack view backing p old (record big { is_failed = failed }) s
       back (Ok x) failed marks freeing_step =
           subst (λ (f : Bool). WritesBack view backing p old (record big { is_failed = f }) (Ok x)) (sym marks)
           (extends_tidying (with_listed p old.file.free_list) (with_listed p big.file.free_list) old big freeing_step, freeing_step.unseen.header, format_stay old.file.header.fields big.file.header.fields (known_in view old.file) (known_in view big.file) freeing_step.unseen.header freeing_step.unseen.covers)

@@ -1,6 +1,6 @@
 -- The number of L1 entries after the parts of a call.
 use Rattle.std.proofs.Common.{◌≡◌, ◌+◌, ◌-◌, ◌*◌, ◌/◌, ◌%◌, ◌^◌, ◌<◌, ◌≤◌, inl, inr, ℕ, List, Option, max, sym, ap, ◌∙◌, subst, arith}
-use Rattle.qcow2_image.proofs.Common.{div-zero, cases_lt, div-add-mod', div-mul-add, mod_below, pow_pos, BackingView, StorageView, HeaderFields, l1_entry, EntryTableView, entry_count, HeaderView, cluster_size, entries_per_cluster, rounded_up, entry_at, Pending, KeepsFormat, div_mono, contents_in, Qcow2, Prepared, l1_index_of, FitsSize, ImageInvariant, ReachesOffset, ReachingStays, HasOwnTable, KeepsL1Place, MovesTables, NamesOwn}
+use Rattle.qcow2_image.proofs.Common.{div-zero, cases_lt, div-add-mod', div-mul-add, mod_below, pow_pos, BackingView, StorageView, HeaderFields, l1_entry, EntryTableView, entry_count, HeaderView, cluster_size, entries_per_cluster, rounded_up, entry_at, Pending, KeepsFormat, div_mono, contents_in, Qcow2, Prepared, l1_index_of, FitsSize, ImageInvariant, ReachesOffset, ReachingStays, HasOwnTable, KeepsL1Place, MovesTables, NamesOwn, Mappings}
 
 -- a table that stays where it is does so where a header is the same
 pub place_same : (h : HeaderFields) (v v' : HeaderView) → v' ≡ v → KeepsL1Place h v.fields → KeepsL1Place h v'.fields
@@ -77,7 +77,7 @@ reaches_end h h' size any file_step is =
 pub reaches_on : (h h' h'' : HeaderFields) (size : ℕ) → 0 < size → MovesTables h h' → ReachesOffset (size - 1) h h' → ReachingStays (rounded_up (cluster_size h') size) h' h'' → ReachesOffset (size - 1) h h''
 reaches_on h h' h'' size any file_step is stays = (stays (reaches_end h h' size any file_step is)).1 ∙ is
 
-module _ {S F : Type 0} (view : S → StorageView) (backing : F → BackingView) (out : List (Option Prepared)) where
+module _ {S F : Type 0} (view : S → StorageView) (backing : F → BackingView) (out : Mappings) where
   -- the headers say what the L1 tables in memory have
   pub reaches_told : (p p' : Pending) (old new : Qcow2 S F) (offset : ℕ) → ImageInvariant view backing p old out → ImageInvariant view backing p' new out → entry_count new.l1_table ≡ max (entry_count old.l1_table) (l1_index_of old.file.header.fields offset + 1)
       → ReachesOffset offset old.file.header.fields new.file.header.fields

@@ -1,18 +1,19 @@
 -- The header's pointer to a longer L1 table is written, and the image uses that table from then on.
 use Rattle.std.proofs.Common.{◌≡◌, ◌+◌, ◌*◌, ◌/◌, ◌^◌, ◌<◌, ◌≤◌, ℕ, List, [], length, Option, Some, Result, Ok, Err, inr, refl, sym, ap, ◌∙◌, subst, arith, IsTrue}
-use Rattle.qcow2_image.proofs.Common.{or_right, IfSome, append-nil, BackingView, StorageView, Changes, Calls, StorageError, Bytes, byte_at, HeaderFields, HeaderView, cluster_size, with_fields, with_l1_table, l1_table_pointer_written, l1_entry, reftable_entry, count, count_under, EntryTableView, entry_count, IsHostCluster, in_run, renamed, Pending, SameIn, KeepsGuests, SafeStep, SafeThroughout, WritesHeader, with_places, with_l1_at, IsNewL1, longer_l1_table_keeps_guests, step_safe_throughout, Sizes, l1-same, run_has, header_is_written, Allocator, ImageStorage, nothing_given, view_in, contents_in, known_in, state_in, of_storage, storage_of, is_changed_of, order_of, known_of, fault_of_storage, pending_same, cluster_aligned, own_cluster, file_sizes, known_there, IsAllocatorOf, allocator_kept, header_known_counts, file_invariant_of, Qcow2, Prepared, with_table, without_l1, StandsWhole, InternalMove, NamesTable, ImageInvariant, MovesTables}
+use Rattle.qcow2_image.proofs.Common.{or_right, IfSome, append-nil, BackingView, StorageView, Changes, Calls, StorageError, Bytes, byte_at, HeaderFields, HeaderView, cluster_size, with_fields, with_l1_table, l1_table_pointer_written, l1_entry, reftable_entry, count, count_under, EntryTableView, entry_count, IsHostCluster, in_run, renamed, Pending, SameIn, KeepsGuests, SafeStep, SafeThroughout, WritesHeader, with_places, with_l1_at, IsNewL1, longer_l1_table_keeps_guests, step_safe_throughout, Sizes, l1-same, run_has, header_is_written, Allocator, ImageStorage, nothing_given, view_in, contents_in, known_in, state_in, of_storage, storage_of, is_changed_of, order_of, known_of, fault_of_storage, pending_same, cluster_aligned, own_cluster, file_sizes, known_there, IsAllocatorOf, allocator_kept, header_known_counts, file_invariant_of, Qcow2, Prepared, with_table, without_l1, StandsWhole, InternalMove, NamesTable, ImageInvariant, MovesTables, Mappings}
 use Rattle.qcow2_laws.specs.GuestLaws.{state_with_l1_table as with_new_l1}
 use Rattle.qcow2_laws.proofs.L1Moves.{now_l1, now_reftable}
 use Rattle.qcow2_alloc.proofs.Numbers.{l1_pointer_writes}
 use Rattle.qcow2_image.proofs.Open.HeaderKept.{placed_named_blocks, placed_sound}
 use Rattle.qcow2_image.proofs.Grow.NewL1Table.{same_run, run_free}
 use Rattle.qcow2_image.proofs.Images.Moved.{ready_moved}
+use Rattle.qcow2_image.proofs.Images.Places.{inside_of}
 
 -- the sizes don't depend on the offset of the L1 table
 same_sizes : (h : HeaderFields) (offset entries : ℕ) → Sizes h → Sizes (with_places h (with_l1_at h offset entries))
 same_sizes h offset entries s = record { some = s.some; large = s.large; whole = s.whole; entries = s.entries; eights = s.eights; counts = s.counts; order = s.order }
 
-module _ {S F : Type 0} (view : S → StorageView) (backing : F → BackingView) (out : List (Option Prepared)) (p : Pending) (old : Qcow2 S F) (t : EntryTableView) (cluster : ℕ) (sound : ImageInvariant view backing (with_table p t cluster) old out)
+module _ {S F : Type 0} (view : S → StorageView) (backing : F → BackingView) (out : Mappings) (p : Pending) (old : Qcow2 S F) (t : EntryTableView) (cluster : ℕ) (sound : ImageInvariant view backing (with_table p t cluster) old out)
     (ready : StandsWhole view old t cluster) (near : IsHostCluster old.file.header.fields.cluster_bits cluster) (few : entry_count t ≤ 4194304) where
   abbrev h : HeaderFields
   h = old.file.header.fields
@@ -132,12 +133,11 @@ module _ {S F : Type 0} (view : S → StorageView) (backing : F → BackingView)
         entries = λ i. sym (ready.stands i) ∙ same_entries i ∙ sym (l1_now i);
       };
       reftable = reftable_now old.allocator sound.reftable;
-      inside = sound.inside;
-      alone = sound.alone;
+      stands = sound.stands;
       below = sound.below;
       ready = λ k r at. let was = sound.ready k r at in record {
         own = was.own;
-        mapped = ready_moved h place (entry_count t) known on_storage (known_in view now.file) (contents_in view now.file) r guests_now.covers known_l1_now l1_now r.table was.mapped;
+        mapped = ready_moved h out.place place (entry_count t) known on_storage (known_in view now.file) (contents_in view now.file) r guests_now.covers known_l1_now l1_now r.table was.mapped;
       };
       pinned = sound.pinned;
       once = sound.once;
@@ -152,7 +152,7 @@ module _ {S F : Type 0} (view : S → StorageView) (backing : F → BackingView)
       covers = guests_now.covers;
       bytes = guests_now.bytes;
       used = λ c some. subst (λ n. 0 < n) (sym (guests_now.used c)) some;
-      shows = guests_now.disk sound.inside;
+      shows = guests_now.disk (inside_of sound);
       below = refl;
       list = record { more = []; is = sym (append-nil old.file.free_list) };
       leaks = refl;

@@ -1,6 +1,6 @@
 -- A longer L1 table is written to clusters that were allocated for it, after all refcounts.
 use Rattle.std.proofs.Common.{◌≡◌, ◌⊎◌, ◌+◌, ◌-◌, ◌*◌, ◌/◌, ◌^◌, ◌<◌, ◌≤◌, ◌&&◌, inl, inr, ℕ, List, length, Option, Some, Result, Ok, refl, sym, ap, ◌∙◌, subst, arith, nat_le, nat_lt}
-use Rattle.qcow2_image.proofs.Common.{IfSome, cases_lt, BackingView, overwritten, StorageView, Changes, Calls, StorageError, whole_or_nothing, byte_at, one_if, HeaderFields, cluster_size, l1_entry, EntryTableView, entry_count, in_run, entry_at, AreClean, BlocksMayGo, RbDependsOnL2, Pending, SameCovers, SameIn, with_places, with_l1_at, IsUnnamed, overwritten_but, clean_counts, run_has, data_is_written, Allocator, ImageStorage, run_at, view_in, contents_in, known_in, state_in, FileInvariant, storage_of, order_of, l2_tables, refblocks, cluster_aligned, own_cluster, IsFree, covers_written, file_sizes, IsAllocatorOf, Qcow2, Prepared, with_table, clusters_of, IsLongerL1, StandsWhole, InternalStep, ImageInvariant}
+use Rattle.qcow2_image.proofs.Common.{IfSome, cases_lt, BackingView, overwritten, StorageView, Changes, Calls, StorageError, whole_or_nothing, byte_at, one_if, HeaderFields, cluster_size, l1_entry, EntryTableView, entry_count, in_run, entry_at, AreClean, BlocksMayGo, RbDependsOnL2, Pending, SameCovers, SameIn, with_places, with_l1_at, IsUnnamed, overwritten_but, clean_counts, run_has, data_is_written, Allocator, ImageStorage, run_at, view_in, contents_in, known_in, state_in, FileInvariant, storage_of, order_of, l2_tables, refblocks, cluster_aligned, own_cluster, IsFree, covers_written, file_sizes, IsAllocatorOf, Qcow2, Prepared, with_table, clusters_of, IsLongerL1, StandsWhole, InternalStep, ImageInvariant, Mappings}
 use Rattle.qcow2_metadata.proofs.WrittenTables.{IsL1TableOf-written}
 use Rattle.qcow2_alloc.proofs.FileWrites.{file_step_written, reftable_written}
 use Rattle.qcow2_image.proofs.Lemmas.{allocator_moved, file_moved}
@@ -31,7 +31,7 @@ run_free view p image t cluster sound bits covers c some =
     let few = (crash_invariant.each_cluster c).pending (omega (arith, new_tables)) in
     record { unnamed = data_is_written.new_tables (state_in view image.file (with_table p t cluster)) c crash_invariant new_tables covers; unheld = omega (arith, tally, few, new_tables) }
 
-module _ {S F : Type 0} (view : S → StorageView) (backing : F → BackingView) (out : List (Option Prepared)) (p : Pending) (image : Qcow2 S F) (t : EntryTableView) (cluster : ℕ) (sound : ImageInvariant view backing (with_table p t cluster) image out)
+module _ {S F : Type 0} (view : S → StorageView) (backing : F → BackingView) (out : Mappings) (p : Pending) (image : Qcow2 S F) (t : EntryTableView) (cluster : ℕ) (sound : ImageInvariant view backing (with_table p t cluster) image out)
     (longer : IsLongerL1 image t) (clean : AreClean (refblocks image.file.caches)) (may : BlocksMayGo (order_of image.file.caches) (l2_tables image.file.caches)) where
   abbrev h : HeaderFields
   h = image.file.header.fields

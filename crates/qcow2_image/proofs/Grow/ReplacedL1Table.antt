@@ -1,6 +1,6 @@
 -- A longer L1 table replaces the old one, part by part, which guests don't see.
 use Rattle.std.proofs.Common.{◌≡◌, ◌+◌, ◌-◌, ◌*◌, ◌/◌, ◌%◌, ◌^◌, ◌<◌, ◌≤◌, ◌∷◌, ◌++◌, ◌⊎◌, inl, inr, ℕ, false, List, [], length, Option, Some, None, Result, Ok, Err, refl, sym, ap, ◌∙◌, subst, arith}
-use Rattle.qcow2_image.proofs.Common.{cases_lt, OnOk, OnErr, append_assoc, div-mul-add, BackingView, StorageView, HeaderFields, HeaderView, cluster_size, EntryTableView, entry_count, in_run, named_by_guest, entry_at, new_tables_to_old_tables, Pending, over_guests, names, SafeStep, used_by_guests, guests_format, over_guests-same, safe_step_none, safe_step_then, steps_safe_throughout, pending_is_changed, unseen_disk, run_at, taken_as, InternalAllocatorGrowth, RefusedGrowth, KeepsPinsAndNotes, Allocator, ClusterKind, ClustersToFreeEntry, ImageError, ImageFile, ListsTables, nothing_given, view_in, known_in, state_in, KeepsHeader, pending_same, header_format, file_sizes, run_none, NoFreeBelowHint, BrokeOff, Qcow2, Prepared, RefusedCall, InternalCall, of_data, of_tables, to_free, pending_in, ImageInvariant, abstract_of, clusters_of, run_of_table, listed, with_table, without_l1, IsLongerL1, StandsWhole, InternalMove, InterruptedMove, RefusedMove, PlacesTable, NamesTable, NamesTaken, AllocatesTable, MakesEntry, InternalStep, FreesListed, ListGrows, pending_with_listed, leaked_by, leaked_in, stops_of, run_few, IsFault}
+use Rattle.qcow2_image.proofs.Common.{cases_lt, OnOk, OnErr, append_assoc, div-mul-add, BackingView, StorageView, HeaderFields, HeaderView, cluster_size, EntryTableView, entry_count, in_run, named_by_guest, entry_at, new_tables_to_old_tables, Pending, over_guests, names, SafeStep, used_by_guests, guests_format, over_guests-same, safe_step_none, safe_step_then, steps_safe_throughout, pending_is_changed, unseen_disk, run_at, taken_as, InternalAllocatorGrowth, RefusedGrowth, KeepsPinsAndNotes, Allocator, ClusterKind, ClustersToFreeEntry, ImageError, ImageFile, ListsTables, nothing_given, view_in, known_in, state_in, KeepsHeader, pending_same, header_format, file_sizes, run_none, NoFreeBelowHint, BrokeOff, Qcow2, Prepared, RefusedCall, InternalCall, of_data, of_tables, to_free, pending_in, ImageInvariant, abstract_of, clusters_of, run_of_table, listed, with_table, without_l1, IsLongerL1, StandsWhole, InternalMove, InterruptedMove, RefusedMove, PlacesTable, NamesTable, NamesTaken, AllocatesTable, MakesEntry, InternalStep, FreesListed, ListGrows, pending_with_listed, leaked_by, leaked_in, stops_of, run_few, IsFault, Mappings}
 use Rattle.qcow2_alloc.specs.declared.clusters_to_free.ClusterKind.TheVariants as Kind
 use Rattle.qcow2_image.proofs.Call.Answered.{followed, same_setting, still_shown}
 use Rattle.qcow2_image.proofs.Call.Called.{keeps_then}
@@ -13,8 +13,9 @@ use Rattle.qcow2_image.proofs.Prepare.UnlinkedL2Table.{as_listed_after, interrup
 use Rattle.qcow2_image.proofs.Prepare.FirstCluster.{listed_after_on}
 use Rattle.qcow2_image.proofs.Images.Sound.{free_more}
 use Rattle.qcow2_image.proofs.Images.UngivenCovers.{all_stay}
+use Rattle.qcow2_image.proofs.Images.Places.{inside_of}
 
-module _ {S F : Type 0} (view : S → StorageView) (backing : F → BackingView) (out : List (Option Prepared)) where
+module _ {S F : Type 0} (view : S → StorageView) (backing : F → BackingView) (out : Mappings) where
   -- ---- one part after another
   module _ (p q : Pending) (a b : Qcow2 S F) (new_data : (k : ℕ) → 0 < p.new_data k → 0 < q.new_data k) (keeps : InternalStep view backing p q a b out) where
     used_stay : (c : ℕ) → 0 < used_by_guests (state_in view a.file p) c → 0 < used_by_guests (state_in view b.file q) c
@@ -35,7 +36,7 @@ module _ {S F : Type 0} (view : S → StorageView) (backing : F → BackingView)
       covers = format_stay a.file.header.fields b.file.header.fields (known_in view a.file) (known_in view b.file) keeps.unseen.header keeps.unseen.covers;
       bytes = keeps.unseen.bytes;
       used = used_stay;
-      shows = unseen_disk (state_in view a.file p) (state_in view b.file q) sound.file.caches.kept.kept.crash_invariant sound.inside keeps.sound.file.caches.kept.kept.crash_invariant keeps.unseen;
+      shows = unseen_disk (state_in view a.file p) (state_in view b.file q) sound.file.caches.kept.kept.crash_invariant (inside_of sound) keeps.sound.file.caches.kept.kept.crash_invariant keeps.unseen;
       below = keeps.below;
       list = keeps.list;
       leaks = keeps.leaks;
@@ -271,7 +272,7 @@ module _ {S F : Type 0} (view : S → StorageView) (backing : F → BackingView)
           (file_step_kept q q mid final (λ k some. some) (keeps_listed view backing out q q mid list (listed former) takes.sound longer (safe_step_none (state_in view mid.file q) takes.sound.file.caches.kept.kept.crash_invariant)) takes.sound))
 
 -- ---- a call that makes an L1 entry
-module _ {S F : Type 0} (view : S → StorageView) (backing : F → BackingView) (out : List (Option Prepared)) (old new : Qcow2 S F) (sound : ImageInvariant view backing (pending_in view backing old out) old out) where
+module _ {S F : Type 0} (view : S → StorageView) (backing : F → BackingView) (out : Mappings) (old new : Qcow2 S F) (sound : ImageInvariant view backing (pending_in view backing old out) old out) where
   module _ (file_step : InternalMove view backing (pending_in view backing old out) (pending_with_listed (pending_in view backing old out) old new) old new out) where
     pending_now : pending_with_listed (pending_in view backing old out) old new ≡ pending_in view backing new out
     pending_now = followed view backing old new out sound file_step.list file_step.sound
@@ -297,7 +298,7 @@ module _ {S F : Type 0} (view : S → StorageView) (backing : F → BackingView)
     | inr interruption ↦ inr (break_off_so view backing out old new e interruption.interrupted (ap (λ (h : HeaderFields). cluster_size h) interruption.header) interruption.below interruption.leaks)
   ]
 
-module _ {S F : Type 0} (view : S → StorageView) (backing : F → BackingView) (out : List (Option Prepared)) where
+module _ {S F : Type 0} (view : S → StorageView) (backing : F → BackingView) (out : Mappings) where
   -- the entry is there already
   pub makes_none : (image : Qcow2 S F) → ImageInvariant view backing (pending_in view backing image out) image out → MakesEntry view backing image image out (Ok tt)
   makes_none image sound =
@@ -310,6 +311,6 @@ module _ {S F : Type 0} (view : S → StorageView) (backing : F → BackingView)
   freed_then old mid new first (Err e) frees = refused_then view backing out old mid new first e (freed_refused view backing mid out new e first.sound frees)
 
 -- a part that is refused takes nothing from the list, except after a fault
-pub listed_moved : {S F : Type 0} (view : S → StorageView) (backing : F → BackingView) (p : Pending) (old new : Qcow2 S F) (out : List (Option Prepared)) (e : ImageError) → RefusedMove view backing p old new out e → IsFault e ⊎ ListGrows old new
+pub listed_moved : {S F : Type 0} (view : S → StorageView) (backing : F → BackingView) (p : Pending) (old new : Qcow2 S F) (out : Mappings) (e : ImageError) → RefusedMove view backing p old new out e → IsFault e ⊎ ListGrows old new
 listed_moved view backing p old new out e (inl keeps) = inr keeps.list
 listed_moved view backing p old new out e (inr interruption) = inl interruption.interrupted.fault

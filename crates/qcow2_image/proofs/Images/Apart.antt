@@ -1,10 +1,11 @@
 -- Prepared mappings have no guest cluster in common, since each pins an L2 table of its own.
 use Rattle.std.proofs.Common.{◌≡◌, ◌+◌, ◌*◌, ◌/◌, ◌%◌, ◌<◌, ◌==◌, ℕ, List, Option, Some, refl, sym, ap, ◌∙◌, arith, length}
-use Rattle.qcow2_image.proofs.Common.{slice_get, cond-true, eq-eqb, div-add-mod', div-mul-add, pow_pos, BackingView, StorageView, Bytes, HeaderFields, cluster_size, entries_per_cluster, Pending, table_at, contents_in, known_in, Qcow2, Prepared, cluster_of, pins_by, pins_of, IsPending, ImageInvariant}
+use Rattle.qcow2_image.proofs.Common.{slice_get, cond-true, eq-eqb, div-add-mod', div-mul-add, pow_pos, BackingView, StorageView, Bytes, HeaderFields, cluster_size, entries_per_cluster, Pending, table_at, contents_in, known_in, Qcow2, Prepared, cluster_of, pins_by, pins_of, IsPending, ImageInvariant, Mappings}
 use Rattle.qcow2_image.proofs.Call.Slots.{over_all_two}
+use Rattle.qcow2_image.specs.declared.mapping.Place.{Place}
 
 -- all guest clusters of a mapping are under one L1 entry, each at its own entry of the L2 table
-module _ (h : HeaderFields) (known on_storage : Bytes) (p : Prepared) (t : ℕ) (pending : IsPending h known on_storage p t) (i : ℕ) (lt : i < length p.clusters.items) where
+module _ {place : Place} (h : HeaderFields) (known on_storage : Bytes) (p : Prepared) (t : ℕ) (pending : IsPending h place known on_storage p t) (i : ℕ) (lt : i < length p.clusters.items) where
   abbrev row : ℕ
   row = entries_per_cluster h
 
@@ -20,7 +21,7 @@ module _ (h : HeaderFields) (known on_storage : Bytes) (p : Prepared) (t : ℕ) 
 pub pins_own : (q : Prepared) (t : ℕ) → q.table ≡ Some t → pins_by q t ≡ 1
 pins_own q t is = ap (λ x. pins_of x t) is ∙ cond-true {A = ℕ} (t == t) 1 0 (eq-eqb t t refl)
 
-module _ {S F : Type 0} (view : S → StorageView) (backing : F → BackingView) (image : Qcow2 S F) (out : List (Option Prepared)) (p : Pending) (sound : ImageInvariant view backing p image out) where
+module _ {S F : Type 0} (view : S → StorageView) (backing : F → BackingView) (image : Qcow2 S F) (out : Mappings) (p : Pending) (sound : ImageInvariant view backing p image out) where
   abbrev h : HeaderFields
   h = image.file.header.fields
 
@@ -31,8 +32,8 @@ module _ {S F : Type 0} (view : S → StorageView) (backing : F → BackingView)
   own_number : (n : ℕ) → n * cluster_size image.file.header.fields / cluster_size image.file.header.fields ≡ n
   own_number n = let e : n * cluster_size h ≡ n * cluster_size h + 0 = omega arith in ap (λ o. o / cluster_size h) e ∙ div-mul-add n (cluster_size h) 0 (pow_pos h.cluster_bits)
 
-  pub apart_guests : (k : ℕ) (q : Prepared) → slice_get out k ≡ Some (Some q) → (t : ℕ) → q.table ≡ Some t → IsPending image.file.header.fields (known_in view image.file) (contents_in view image.file) q t
-      → (j : ℕ) (r : Prepared) → (j ≡ k → ⊥) → slice_get out j ≡ Some (Some r) → (u : ℕ) → r.table ≡ Some u → IsPending image.file.header.fields (known_in view image.file) (contents_in view image.file) r u
+  pub apart_guests : {file other : Place} (k : ℕ) (q : Prepared) → slice_get out.slots k ≡ Some (Some q) → (t : ℕ) → q.table ≡ Some t → IsPending image.file.header.fields file (known_in view image.file) (contents_in view image.file) q t
+      → (j : ℕ) (r : Prepared) → (j ≡ k → ⊥) → slice_get out.slots j ≡ Some (Some r) → (u : ℕ) → r.table ≡ Some u → IsPending image.file.header.fields other (known_in view image.file) (contents_in view image.file) r u
       → (a b : ℕ) → a < length q.clusters.items → b < length r.clusters.items → cluster_of image.file.header.fields q + a ≡ cluster_of image.file.header.fields r + b → ⊥
   apart_guests k q at_k t is_t its_q j r apart at_j u is_u its_r a b lt_a lt_b same =
       let rows : cluster_of h q / entries_per_cluster h ≡ cluster_of h r / entries_per_cluster h =

@@ -1,8 +1,10 @@
 -- The meaning of the cluster mappings of a prepared mapping: which clusters they hold, and whose bytes these have.
 use Rattle.std.proofs.Common.{◌≡◌, ◌+◌, ◌-◌, ◌*◌, ◌/◌, ◌%◌, ◌<◌, ◌≤◌, ◌∷◌, ◌++◌, inl, inr, ℕ, zero, suc, Bool, true, false, List, [], length, Option, Some, None, refl, sym, ap, ◌∙◌, subst, arith, cond, IsTrue, nat_le}
-use Rattle.qcow2_image.proofs.Common.{slice_get, slice_set, option_map_or, cases_lt, cond-true, cond-false, le-leb, lt-leb, div-add-mod', div-mul-add, mod-mul-add, mod_below, pow_pos, append_assoc, BackingView, StorageView, Bytes, HeaderFields, cluster_size, cover, in_cluster, named_by_cover, Zero, Pending, over_guests, names, DriverState, StateInvariant, used_by_guests, in_own, kept_aligned, tied, in_one, named_some, data_entry, ClustersToFreeEntry, state_in, contents_in, known_in, run_in, Qcow2, Prepared, ClusterMapping, InPlace, Kept, New, freed_by, HoldsAll, of_data, of_tables, to_free, new_data_in, new_data_by, over_all, is_entered, cluster_of, begin_of, host_begin_of, place_of, mapping_of_cluster, IsClusterMappingAt, IsPending, IsReadyWith, is_private, ImageInvariant}
+use Rattle.qcow2_image.proofs.Common.{slice_get, slice_set, option_map_or, cases_lt, cond-true, cond-false, le-leb, lt-leb, div-add-mod', div-mul-add, mod-mul-add, mod_below, pow_pos, append_assoc, BackingView, StorageView, Bytes, HeaderFields, cluster_size, cover, in_cluster, named_by_cover, Zero, Pending, over_guests, names, DriverState, StateInvariant, used_by_guests, in_own, kept_aligned, tied, in_one, named_some, data_entry, ClustersToFreeEntry, state_in, contents_in, known_in, run_in, Qcow2, Prepared, ClusterMapping, InPlace, Kept, New, freed_by, HoldsAll, of_data, of_tables, to_free, new_data_in, new_data_by, over_all, is_entered, cluster_of, begin_of, host_begin_of, place_of, mapping_of_cluster, IsClusterMappingAt, IsPending, IsReadyWith, is_private, ImageInvariant, Mappings, over_slots, Image, DataFile}
 use Rattle.qcow2_image.proofs.Images.Inside.{names_inside}
 use Rattle.qcow2_image.proofs.Images.Sound.{free_more}
+use Rattle.qcow2_image.proofs.Images.Places.{inside_of, ready_inside}
+use Rattle.qcow2_image.specs.declared.mapping.Place.{Place}
 
 -- ---- lists of cluster mappings
 
@@ -53,10 +55,11 @@ freed_none (InPlace ∷ clusters) each = freed_none clusters (λ j lt. each (suc
 freed_none (Kept ∷ clusters) each = absurd (let e : Some Kept ≡ Some InPlace = each 0 (omega arith) in cc)
 freed_none (New taken old_data ∷ clusters) each = absurd (let e : Some (New taken old_data) ≡ Some InPlace = each 0 (omega arith) in cc)
 
-pub of_data_at : (h : HeaderFields) (known on_storage : Bytes) (p : Prepared) (i : ℕ) (cluster_mapping : ClusterMapping) → IsClusterMappingAt h known on_storage p i cluster_mapping → IsOfData cluster_mapping
-of_data_at h known on_storage p i InPlace at = tt
-of_data_at h known on_storage p i Kept at = tt
-of_data_at h known on_storage p i (New taken old_data) at = λ c. ap (λ l. to_free of_tables l c) at.is
+pub of_data_at : (h : HeaderFields) (place : Place) (known on_storage : Bytes) (p : Prepared) (i : ℕ) (cluster_mapping : ClusterMapping) → IsClusterMappingAt h place known on_storage p i cluster_mapping → IsOfData cluster_mapping
+of_data_at h place known on_storage p i InPlace at = tt
+of_data_at h place known on_storage p i Kept at = tt
+of_data_at h DataFile known on_storage p i (New taken old_data) at = absurd at
+of_data_at h Image known on_storage p i (New taken old_data) at = λ c. ap (λ l. to_free of_tables l c) at.is
 
 -- one after others
 pub freed_behind : (clusters : List ClusterMapping) (cluster_mapping : ClusterMapping) → freed_by (clusters ++ cluster_mapping ∷ []) ≡ freed_by clusters ++ freed_by (cluster_mapping ∷ [])
@@ -93,7 +96,7 @@ module _ (h : HeaderFields) (p : Prepared) where
       omega arith
 
   -- a byte of a range within it
-  module _ (known on_storage : Bytes) (t : ℕ) (pending : IsPending h known on_storage p t) (at i n : ℕ) (fits : at + n ≤ p.length) (lt : i < n) where
+  module _ {place : Place} (known on_storage : Bytes) (t : ℕ) (pending : IsPending h place known on_storage p t) (at i n : ℕ) (fits : at + n ≤ p.length) (lt : i < n) where
     abbrev within : ℕ
     within = p.guest % cluster_size h + at + i
 
@@ -186,10 +189,10 @@ module _ {S F : Type 0} (view : S → StorageView) (backing : F → BackingView)
   private_is p o i cluster_mapping here is = ap (λ m. option_map_or is_entered m false) (ap (mapping_of_cluster image.file.header.fields p) here ∙ mapping_here image.file.header.fields p i ∙ is)
 
   -- a mapping with at least one cluster mapping isn't existing
-  pub ready_table : (known on_storage : Bytes) (q : Prepared) (i : ℕ) (cluster_mapping : ClusterMapping) → slice_get q.clusters.items i ≡ Some cluster_mapping → IsReadyWith image.file.header.fields known on_storage q q.table
-      → (t : ℕ) × (q.table ≡ Some t) × IsPending image.file.header.fields known on_storage q t
-  ready_table known on_storage q i cluster_mapping is ready = table_of q.table refl ready where
-    table_of : (t : Option ℕ) → q.table ≡ t → IsReadyWith image.file.header.fields known on_storage q t → (u : ℕ) × (q.table ≡ Some u) × IsPending image.file.header.fields known on_storage q u
+  pub ready_table : (place : Place) (known on_storage : Bytes) (q : Prepared) (i : ℕ) (cluster_mapping : ClusterMapping) → slice_get q.clusters.items i ≡ Some cluster_mapping → IsReadyWith image.file.header.fields place known on_storage q q.table
+      → (t : ℕ) × (q.table ≡ Some t) × IsPending image.file.header.fields place known on_storage q t
+  ready_table place known on_storage q i cluster_mapping is ready = table_of q.table refl ready where
+    table_of : (t : Option ℕ) → q.table ≡ t → IsReadyWith image.file.header.fields place known on_storage q t → (u : ℕ) × (q.table ≡ Some u) × IsPending image.file.header.fields place known on_storage q u
     table_of None at none = absurd (let e : Some cluster_mapping ≡ None = sym is ∙ ap (λ (l : List ClusterMapping). slice_get l i) none in cc)
     table_of (Some t) at pending = (t, at, pending)
 
@@ -198,10 +201,12 @@ pub never_private : {S F : Type 0} (view : S → StorageView) (backing : F → B
 never_private view backing image p none o = ap (λ m. option_map_or is_entered m false) (no_cluster_mapping image.file.header.fields p none (o / cluster_size image.file.header.fields))
 
 -- one of the mappings holds no more than all of them
-pub over_all_at : (f : Prepared → ℕ → ℕ) (out : List (Option Prepared)) (k : ℕ) (q : Prepared) → slice_get out k ≡ Some (Some q) → (c : ℕ) → f q c ≤ over_all f out c
-over_all_at f [] k q at c = absurd cc
-over_all_at f (p ∷ out) zero q at c = let is : p ≡ Some q = cc in subst (λ (m : Option Prepared). f q c ≤ option_map_or (λ r. f r c) m 0 + over_all f out c) (sym is) (omega arith)
-over_all_at f (p ∷ out) (suc k) q at c = let rest = over_all_at f out k q at c in omega arith
+pub over_all_at : (f : Prepared → ℕ → ℕ) (out : Mappings) (k : ℕ) (q : Prepared) → slice_get out.slots k ≡ Some (Some q) → (c : ℕ) → f q c ≤ over_all f out c
+over_all_at f out k q at c = in_slot out.slots k at where
+  in_slot : (slots : List (Option Prepared)) (k : ℕ) → slice_get slots k ≡ Some (Some q) → f q c ≤ over_slots f slots c
+  in_slot [] k at = absurd cc
+  in_slot (p ∷ slots) zero at = let is : p ≡ Some q = cc in subst (λ (m : Option Prepared). f q c ≤ option_map_or (λ r. f r c) m 0 + over_slots f slots c) (sym is) (omega arith)
+  in_slot (p ∷ slots) (suc k) at = let rest = in_slot slots k at in omega arith
 
 -- the host offset of a private byte lies in a cluster that its mapping holds, or that a zero entry keeps
 pub data Standing (h : HeaderFields) (known : Bytes) (q : Prepared) (o : ℕ) : Type 0 where
@@ -212,7 +217,7 @@ module _ (h : HeaderFields) (known on_storage : Bytes) (q : Prepared) (o : ℕ) 
   place_there : place_of h q o ≡ host_begin_of h q shared.index + o % cluster_size h
   place_there = place_in h q o shared.index shared.here
 
-  stands_as : (cluster_mapping : ClusterMapping) → IsTrue (is_entered cluster_mapping) → slice_get q.clusters.items shared.index ≡ Some cluster_mapping → IsClusterMappingAt h known on_storage q shared.index cluster_mapping → Standing h known q o
+  stands_as : (cluster_mapping : ClusterMapping) → IsTrue (is_entered cluster_mapping) → slice_get q.clusters.items shared.index ≡ Some cluster_mapping → IsClusterMappingAt h Image known on_storage q shared.index cluster_mapping → Standing h known q o
   stands_as InPlace entered is at = absurd (let e : false ≡ true = entered in cc)
   stands_as Kept entered is at = in_kept (host_begin_of h q shared.index) (ap (cover h known) shared.here ∙ at.entry) place_there
   stands_as (New taken old_data) entered is at =
@@ -222,9 +227,9 @@ module _ (h : HeaderFields) (known on_storage : Bytes) (q : Prepared) (o : ℕ) 
       let all = new_data_at q.clusters.items shared.index taken old_data is at.first in
       subst (λ c. 0 < new_data_by q c) (sym there) (omega (arith, one, all)))
 
-  pub stands_shared : IsReadyWith h known on_storage q q.table → Standing h known q o
+  pub stands_shared : IsReadyWith h Image known on_storage q q.table → Standing h known q o
   stands_shared ready = by_table q.table ready where
-    by_table : (t : Option ℕ) → IsReadyWith h known on_storage q t → Standing h known q o
+    by_table : (t : Option ℕ) → IsReadyWith h Image known on_storage q t → Standing h known q o
     by_table None none = absurd (let e : Some shared.cluster_mapping ≡ None = sym shared.is ∙ ap (λ (l : List ClusterMapping). slice_get l shared.index) none in cc)
     by_table (Some t) pending = stands_as shared.cluster_mapping shared.entered shared.is (pending.each shared.index shared.cluster_mapping shared.is)
 
@@ -249,14 +254,14 @@ standing_used s sound inside q o holds (in_kept host is place) =
     let used = kept_used s sound inside (o / cluster_size s.header) host is in
     subst (λ c. 0 < used_by_guests s c) (sym here) (omega arith)
 
-module _ {S F : Type 0} (view : S → StorageView) (backing : F → BackingView) (image : Qcow2 S F) (out : List (Option Prepared)) (p : Pending) (sound : ImageInvariant view backing p image out) where
-  pub private_stands : (k : ℕ) (q : Prepared) → slice_get out k ≡ Some (Some q) → (o : ℕ) → IsTrue (is_private view backing image q o) → Standing image.file.header.fields (known_in view image.file) q o
-  private_stands k q at o private = stands_shared image.file.header.fields (known_in view image.file) (contents_in view image.file) q o (private_shared view backing image q o private) (sound.ready k q at).mapped
+module _ {S F : Type 0} (view : S → StorageView) (backing : F → BackingView) (image : Qcow2 S F) (out : Mappings) (p : Pending) (sound : ImageInvariant view backing p image out) where
+  pub private_stands : (k : ℕ) (q : Prepared) → slice_get out.slots k ≡ Some (Some q) → (o : ℕ) → IsTrue (is_private view backing image q o) → Standing image.file.header.fields (known_in view image.file) q o
+  private_stands k q at o private = stands_shared image.file.header.fields (known_in view image.file) (contents_in view image.file) q o (private_shared view backing image q o private) (ready_inside sound k q at)
 
-  pub private_used : HoldsAll view backing p out → (k : ℕ) (q : Prepared) → slice_get out k ≡ Some (Some q) → (o : ℕ) → IsTrue (is_private view backing image q o)
+  pub private_used : HoldsAll view backing p out → (k : ℕ) (q : Prepared) → slice_get out.slots k ≡ Some (Some q) → (o : ℕ) → IsTrue (is_private view backing image q o)
       → 0 < used_by_guests (state_in view image.file p) (place_of image.file.header.fields q o / cluster_size image.file.header.fields)
   private_used holds k q at o private =
       let place = place_of image.file.header.fields q o / cluster_size image.file.header.fields in
       let all = over_all_at new_data_by out k q at (place_of image.file.header.fields q o / cluster_size image.file.header.fields) in
       let new_data = holds (place_of image.file.header.fields q o / cluster_size image.file.header.fields) in
-      standing_used (state_in view image.file p) sound.file.caches.kept.kept.crash_invariant sound.inside q o (omega arith) (private_stands k q at o private)
+      standing_used (state_in view image.file p) sound.file.caches.kept.kept.crash_invariant (inside_of sound) q o (omega arith) (private_stands k q at o private)

@@ -1,6 +1,7 @@
 -- What stays the same in an image if its header does, except the pointer to the reftable and the size.
 use Rattle.std.proofs.Common.{◌≡◌, ℕ, sym, ◌∙◌, subst, Option, None, Some}
-use Rattle.qcow2_image.proofs.Common.{Bytes, HeaderFields, with_reftable, with_size, l1_entry, cover, cover_under, L2TableView, KeepsFormat, l1_format, ListsTables, IsEntryAt, Qcow2, Prepared, ClusterMapping, InPlace, Kept, New, SaysKnown, ListGrows, IsClusterMappingAt, IsReadyWith}
+use Rattle.qcow2_image.proofs.Common.{Bytes, HeaderFields, with_reftable, with_size, l1_entry, cover, cover_under, L2TableView, KeepsFormat, l1_format, ListsTables, IsEntryAt, Qcow2, Prepared, ClusterMapping, InPlace, Kept, New, SaysKnown, ListGrows, IsClusterMappingAt, IsReadyWith, Image, DataFile}
+use Rattle.qcow2_image.specs.declared.mapping.Place.{Place}
 
 -- ---- what is read with it
 module _ (h : HeaderFields) (size offset clusters : ℕ) (known on_storage : Bytes) where
@@ -11,16 +12,18 @@ module _ (h : HeaderFields) (size offset clusters : ℕ) (known on_storage : Byt
   unfolding l1_entry
   entry_with i table j is = record { real = is.real; place = is.place; within = is.within }
 
-  mapping_with : (q : Prepared) (i : ℕ) (cluster_mapping : ClusterMapping) → IsClusterMappingAt h known on_storage q i cluster_mapping → IsClusterMappingAt other known on_storage q i cluster_mapping
+  mapping_with : (place : Place) (q : Prepared) (i : ℕ) (cluster_mapping : ClusterMapping) → IsClusterMappingAt h place known on_storage q i cluster_mapping → IsClusterMappingAt other place known on_storage q i cluster_mapping
   unfolding cover cover_under l1_entry
-  mapping_with q i InPlace is = is
-  mapping_with q i Kept is = record { first = is.first; place = is.place; nameable = is.nameable; entry = is.entry }
-  mapping_with q i (New taken old_data) is = record { first = is.first; is = is.is; place = is.place; nameable = is.nameable; entry = is.entry; reach = is.reach; drops = is.drops }
+  mapping_with place q i InPlace is = is
+  mapping_with Image q i Kept is = record { first = is.first; place = is.place; nameable = is.nameable; entry = is.entry }
+  mapping_with DataFile q i Kept is = record { place = is.place; nameable = is.nameable; entry = is.entry; reach = is.reach }
+  mapping_with DataFile q i (New taken old_data) is = absurd is
+  mapping_with Image q i (New taken old_data) is = record { first = is.first; is = is.is; place = is.place; nameable = is.nameable; entry = is.entry; reach = is.reach; drops = is.drops }
 
-  pub ready_with : (q : Prepared) (t : Option ℕ) → IsReadyWith h known on_storage q t → IsReadyWith other known on_storage q t
+  pub ready_with : (place : Place) (q : Prepared) (t : Option ℕ) → IsReadyWith h place known on_storage q t → IsReadyWith other place known on_storage q t
   unfolding l1_entry
-  ready_with q None is = is
-  ready_with q (Some table) is = record {
+  ready_with place q None is = is
+  ready_with place q (Some table) is = record {
     some = is.some;
     begins = is.begins;
     enough = is.enough;
@@ -28,7 +31,7 @@ module _ (h : HeaderFields) (size offset clusters : ℕ) (known on_storage : Byt
     within = is.within;
     named = record { real = is.named.real; place = is.named.place; within = is.named.within };
     copied = is.copied;
-    each = λ i cluster_mapping at. mapping_with q i cluster_mapping (is.each i cluster_mapping at);
+    each = λ i cluster_mapping at. mapping_with place q i cluster_mapping (is.each i cluster_mapping at);
   }
 
   says_with : (i : ℕ) (t : L2TableView) → SaysKnown h known i t → SaysKnown other known i t
@@ -39,8 +42,8 @@ module _ (h h' : HeaderFields) (e : KeepsFormat h h') (known on_storage : Bytes)
   pub entry_at_format : (i table j : ℕ) → IsEntryAt h known i table j → IsEntryAt h' known i table j
   entry_at_format i table j is = subst (λ (x : HeaderFields). IsEntryAt x known i table j) (sym e) (entry_with h h.size h'.reftable_offset h'.reftable_clusters known on_storage i table j is)
 
-  pub ready_format : (q : Prepared) (t : Option ℕ) → IsReadyWith h known on_storage q t → IsReadyWith h' known on_storage q t
-  ready_format q t is = subst (λ (x : HeaderFields). IsReadyWith x known on_storage q t) (sym e) (ready_with h h.size h'.reftable_offset h'.reftable_clusters known on_storage q t is)
+  pub ready_format : (place : Place) (q : Prepared) (t : Option ℕ) → IsReadyWith h place known on_storage q t → IsReadyWith h' place known on_storage q t
+  ready_format place q t is = subst (λ (x : HeaderFields). IsReadyWith x place known on_storage q t) (sym e) (ready_with h h.size h'.reftable_offset h'.reftable_clusters known on_storage place q t is)
 
   pub says_format : (i : ℕ) (t : L2TableView) → SaysKnown h known i t → SaysKnown h' known i t
   says_format i t is = subst (λ (x : HeaderFields). SaysKnown x known i t) (sym e) (says_with h h.size h'.reftable_offset h'.reftable_clusters known on_storage i t is)

@@ -1,6 +1,6 @@
 -- A step on an image's file that guests don't see, as a step on the image.
 use Rattle.std.proofs.Common.{◌≡◌, ◌+◌, ◌/◌, ◌<◌, ℕ, List, [], Option, Some, refl, sym, ap, ◌∙◌, subst}
-use Rattle.qcow2_image.proofs.Common.{IfSome, append-nil, BackingView, StorageView, HeaderFields, cluster_size, Pending, KeepsFormat, l1_format, SameLeaks, l2_pins, Allocator, ImageFile, contents_in, known_in, InternalFileStep, InternalFileGrowth, file_step_on, IsAllocatorOf, Qcow2, Prepared, leaked_by, leaked_in, InternalStep, ListGrows, InternalFreeingStep, cluster_of, HasL1Table, IsReadyWith, ImageInvariant}
+use Rattle.qcow2_image.proofs.Common.{IfSome, append-nil, BackingView, StorageView, HeaderFields, cluster_size, Pending, KeepsFormat, l1_format, SameLeaks, l2_pins, Allocator, ImageFile, contents_in, known_in, InternalFileStep, InternalFileGrowth, file_step_on, IsAllocatorOf, Qcow2, Prepared, leaked_by, leaked_in, InternalStep, ListGrows, InternalFreeingStep, cluster_of, HasL1Table, IsReadyWith, ImageInvariant, IsAt, Mappings}
 use Rattle.qcow2_image.proofs.Images.Formats.{l1_shared, ready_format}
 use Rattle.qcow2_image.proofs.Images.Ready.{still_ready}
 
@@ -8,7 +8,7 @@ use Rattle.qcow2_image.proofs.Images.Ready.{still_ready}
 pub leaked_still : {S F : Type 0} (image : Qcow2 S F) (before after : Allocator) → image.allocator ≡ Some before → SameLeaks before after → leaked_by (Some after) ≡ leaked_in image
 leaked_still image before after is same = same ∙ ap leaked_by (sym is)
 
-module _ {S F : Type 0} (view : S → StorageView) (backing : F → BackingView) (old : Qcow2 S F) (out : List (Option Prepared)) (p p' : Pending) (sound : ImageInvariant view backing p old out)
+module _ {S F : Type 0} (view : S → StorageView) (backing : F → BackingView) (old : Qcow2 S F) (out : Mappings) (p p' : Pending) (sound : ImageInvariant view backing p old out)
     (file : ImageFile S) (allocator : Option Allocator) (file_step : InternalFileGrowth view p p' old.file file) (reftable : IfSome allocator (IsAllocatorOf view file)) (leaks : leaked_by allocator ≡ leaked_in old)
     (pins : (table : ℕ) → l2_pins file.caches table ≡ l2_pins old.file.caches table) where
   abbrev h : HeaderFields
@@ -25,10 +25,10 @@ module _ {S F : Type 0} (view : S → StorageView) (backing : F → BackingView)
     entries = λ i. sound.l1_table.entries i ∙ sym (file_step.l1_table i) ∙ sym (l1_format h file.header.fields header (contents_in view file) i);
   }
 
-  ready_moved : (k : ℕ) (q : Prepared) → IsReadyWith h (known_in view old.file) (contents_in view old.file) q q.table → IsReadyWith file.header.fields (known_in view file) (contents_in view file) q q.table
+  ready_moved : (k : ℕ) (q : Prepared) → IsReadyWith h out.place (known_in view old.file) (contents_in view old.file) q q.table → IsReadyWith file.header.fields out.place (known_in view file) (contents_in view file) q q.table
   ready_moved k q ready =
-      ready_format h file.header.fields header (known_in view file) (contents_in view file) q q.table
-      (still_ready h (known_in view old.file) (contents_in view old.file) (known_in view file) (contents_in view file) q sound.file.caches.kept.kept.crash_invariant.same_top.l1
+      ready_format h file.header.fields header (known_in view file) (contents_in view file) out.place q q.table
+      (still_ready h out.place (known_in view old.file) (contents_in view old.file) (known_in view file) (contents_in view file) q sound.file.caches.kept.kept.crash_invariant.same_top.l1
       (λ i. l1_shared h file.header.fields header (contents_in view file) (known_in view file) i (file_step.sound.caches.kept.kept.crash_invariant.same_top.l1 i)) (λ i copied. file_step.l1_table i) (λ i. file_step.unseen.covers (cluster_of h q + i)) q.table ready)
 
   pub file_tidied : InternalFreeingStep view backing p p' old (record old { file = file; allocator = allocator }) out
@@ -38,8 +38,7 @@ module _ {S F : Type 0} (view : S → StorageView) (backing : F → BackingView)
       file = file_step.sound;
       l1_table = l1_moved;
       reftable = reftable;
-      inside = ap (λ (k : HeaderFields). k.incompatible) header ∙ sound.inside;
-      alone = sound.alone;
+      stands = subst (λ bits. IsAt view backing out.place bits old.data_file) (sym (ap (λ (k : HeaderFields). k.incompatible) header)) sound.stands;
       below = sound.below;
       ready = λ k q at. let r = sound.ready k q at in record { own = r.own; mapped = ready_moved k q r.mapped };
       pinned = λ table. pins table ∙ sound.pinned table;
@@ -66,7 +65,7 @@ module _ {S F : Type 0} (view : S → StorageView) (backing : F → BackingView)
   }
 
 -- the reftable stays, and so does the list
-module _ {S F : Type 0} (view : S → StorageView) (backing : F → BackingView) (old : Qcow2 S F) (out : List (Option Prepared)) (p p' : Pending) (sound : ImageInvariant view backing p old out)
+module _ {S F : Type 0} (view : S → StorageView) (backing : F → BackingView) (old : Qcow2 S F) (out : Mappings) (p p' : Pending) (sound : ImageInvariant view backing p old out)
     (file : ImageFile S) (allocator : Option Allocator) (file_step : InternalFileStep view p p' old.file file) (reftable : IfSome allocator (IsAllocatorOf view file)) (leaks : leaked_by allocator ≡ leaked_in old)
     (pins : (table : ℕ) → l2_pins file.caches table ≡ l2_pins old.file.caches table) where
   pub file_moved : file.free_list ≡ old.file.free_list → InternalStep view backing p p' old (record old { file = file; allocator = allocator }) out

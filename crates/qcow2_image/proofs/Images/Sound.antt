@@ -1,6 +1,6 @@
 -- A part of a call that guests don't see: the image is sound again, the guest sees what it saw, and a stop is as safe as before.
 use Rattle.std.proofs.Common.{◌≡◌, ◌+◌, ◌-◌, ℕ, List, ap, ◌∙◌, arith, Option}
-use Rattle.qcow2_image.proofs.Common.{fun_ext, BackingView, StorageView, count, named, Pending, DriverState, StateInvariant, named-is, own_data_of, Sizes-from, for_tables-top, IsTop-top, Qcow2, Prepared, of_data, of_tables, to_free, new_data_by, over_all, pending_in, state_in}
+use Rattle.qcow2_image.proofs.Common.{fun_ext, BackingView, StorageView, count, named, Pending, DriverState, StateInvariant, named-is, own_data_of, Sizes-from, for_tables-top, IsTop-top, Qcow2, Prepared, of_data, of_tables, to_free, new_data_by, over_all, pending_in, state_in, Mappings}
 pub use Rattle.qcow2_alloc.proofs.Freeing.{free_more}
 
 -- ---- what is pending
@@ -20,7 +20,7 @@ same_pending p q new_data new_tables old_tables old_data surplus =
     ap (λ f. record p { new_data = f }) new_data ∙ ap (λ f. record p { new_data = q.new_data; new_tables = f }) new_tables ∙ ap (λ f. record p { new_data = q.new_data; new_tables = q.new_tables; old_tables = f }) old_tables
     ∙ ap (λ f. record p { new_data = q.new_data; new_tables = q.new_tables; old_tables = q.old_tables; old_data = f }) old_data ∙ ap (λ f. record q { surplus = f }) surplus
 
-module _ {S F : Type 0} (view : S → StorageView) (backing : F → BackingView) (image : Qcow2 S F) (out : List (Option Prepared)) (p : Pending) where
+module _ {S F : Type 0} (view : S → StorageView) (backing : F → BackingView) (image : Qcow2 S F) (out : Mappings) (p : Pending) where
   -- only this is pending
   pub record IsOnly : Type 0 where
     pub new_data : (k : ℕ) → p.new_data k ≡ over_all new_data_by out k

@@ -1,6 +1,6 @@
 -- An image whose tables were dropped and read again, from the parts of the call.
 use Rattle.std.proofs.Common.{◌≡◌, ◌<◌, ◌≤◌, ◌*◌, ℕ, List, inl, inr, Result, Ok, Err, refl, sym, ap, ◌∙◌, subst, IsErrAnd, IsSome, Option}
-use Rattle.qcow2_image.proofs.Common.{IfSome, OnOk, BackingView, StorageView, byte_at, HeaderView, entries_per_cluster, header, with_fields, with_tables_of, HeaderFields, Pending, l2_pins, CachesHaveRoom, IsFault, contents_in, known_in, view_in, HasReftable, l2_at, rb_at, AreAllWritten, MetadataCaches, ImageError, ImageFile, notes_then, is_writable, leaked_in, IsBegun, HasL1Table, ImageInvariant, ImageStep, ArePlacesFor, DropsCached, RespectsPrepared, HoldsNoTable, IsAsStored, IsAtRest, IsReasonAgainstPlaces, IsReasonAgainstReading, IsOfPrepared, IsReasonNotToRead, IsStillInUse, KeepsTables, ReadsAnew, ReadsPlaces, ReplacesTables, reftable_in, HasPinnedTable, IsReasonAgainstTables, ContentsStayThroughout, Qcow2, Prepared}
+use Rattle.qcow2_image.proofs.Common.{IfSome, OnOk, BackingView, StorageView, byte_at, HeaderView, entries_per_cluster, header, with_fields, with_tables_of, HeaderFields, Pending, l2_pins, CachesHaveRoom, IsFault, contents_in, known_in, view_in, HasReftable, l2_at, rb_at, AreAllWritten, MetadataCaches, ImageError, ImageFile, notes_then, is_writable, leaked_in, IsBegun, HasL1Table, ImageInvariant, ImageStep, ArePlacesFor, DropsCached, RespectsPrepared, HoldsNoTable, IsAsStored, IsAtRest, IsReasonAgainstPlaces, IsReasonAgainstReading, IsOfPrepared, IsReasonNotToRead, IsStillInUse, KeepsTables, ReadsAnew, ReadsPlaces, ReplacesTables, reftable_in, HasPinnedTable, IsReasonAgainstTables, ContentsStayThroughout, Qcow2, Prepared, Mappings}
 use Rattle.qcow2_alloc.specs.declared.error.ImageError.TheVariants as I
 use Rattle.qcow2_image.proofs.Lemmas.{behind_then, step_then, silent_none, silent_then, stays_over, kept_then}
 use Rattle.qcow2_image.proofs.Call.ImageSteps.{stays_then}
@@ -121,7 +121,7 @@ module _ {S F : Type 0} (view : S → StorageView) (old new : Qcow2 S F) where
   tables_reason e why = inr why
 
   -- on a sound image without a prepared mapping
-  pub reading_fault : (backing : F → BackingView) (p : Pending) (out : List (Option Prepared)) → ImageInvariant view backing p old out → ¬ HasPinnedTable old → (e : ImageError) → IsReasonAgainstReading view old new e → IsFault e
+  pub reading_fault : (backing : F → BackingView) (p : Pending) (out : Mappings) → ImageInvariant view backing p old out → ¬ HasPinnedTable old → (e : ImageError) → IsReasonAgainstReading view old new e → IsFault e
   reading_fault backing p out sound none (I.StillInUse tables) why = absurd (elim why [ inl has ↦ none has.0 | inr full ↦ full sound.file.room ])
   reading_fault backing p out sound none e why =
       let h = old.file.header.fields in

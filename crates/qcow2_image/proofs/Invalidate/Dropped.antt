@@ -1,6 +1,6 @@
 -- Tables of an image at rest are dropped, which guests don't see.
 use Rattle.std.proofs.Common.{◌≡◌, ◌<◌, ◌/◌, ◌==◌, ◌∷◌, ℕ, Bool, inl, inr, List, [], length, map, Option, Some, None, Result, Ok, Err, refl, sym, ap, ◌∙◌, subst, arith, IfErr}
-use Rattle.qcow2_image.proofs.Common.{cases_Bool, IfSome, OnOk, fun_ext, BackingView, StorageView, Bytes, byte_at, EntryTableView, entry_count, cluster_size, L2TableView, HeaderFields, AreClean, Direction, Pending, CrashInvariant, is_pinned, pinned, value_at, IsOfPrepared, IsStillInUse, l2_pins, CachesHaveRoom, LeavesPinned, KeepBehindHeader, contents_in, view_in, known_of, l2_tables, order_of, refblocks, AreAllWritten, CacheInvariant, Evict, EvictsTable, InternalCacheStep, Slot, ClustersToFreeEntry, ImageError, IsAllocatorOf, SearchesAnew, Allocator, MetadataCaches, safe_none, pinned_gone, pinned_kept, bytes_stay, IsBesideNumbers, KeepsTablesBehind, leaked_by, leaked_in, HoldsNoTable, IsAtRest, IsReasonAgainstReading, HasPinnedTable, HasL1Table, ImageInvariant, InternalStep, Qcow2, Prepared, anew_kept}
+use Rattle.qcow2_image.proofs.Common.{cases_Bool, IfSome, OnOk, fun_ext, BackingView, StorageView, Bytes, byte_at, EntryTableView, entry_count, cluster_size, L2TableView, HeaderFields, AreClean, Direction, Pending, CrashInvariant, is_pinned, pinned, value_at, IsOfPrepared, IsStillInUse, l2_pins, CachesHaveRoom, LeavesPinned, KeepBehindHeader, contents_in, view_in, known_of, l2_tables, order_of, refblocks, AreAllWritten, CacheInvariant, Evict, EvictsTable, InternalCacheStep, Slot, ClustersToFreeEntry, ImageError, IsAllocatorOf, SearchesAnew, Allocator, MetadataCaches, safe_none, pinned_gone, pinned_kept, bytes_stay, IsBesideNumbers, KeepsTablesBehind, leaked_by, leaked_in, HoldsNoTable, IsAtRest, IsReasonAgainstReading, HasPinnedTable, HasL1Table, ImageInvariant, InternalStep, Qcow2, Prepared, anew_kept, Mappings}
 use Rattle.qcow2_alloc.specs.KeptTables.{cached_tables}
 use Rattle.qcow2_alloc.proofs.CachedEntries.Pins.{pinned_twice}
 use Rattle.qcow2_image.proofs.Lemmas.{keeps_then, caches_moved}
@@ -27,7 +27,7 @@ module _ {S : Type 0} (h : HeaderFields) (p : Pending) (v : StorageView) (caches
   }
 
 -- the tables in memory are replaced by others that are also those on the storage
-module _ {S F : Type 0} (view : S → StorageView) (backing : F → BackingView) (p : Pending) (a b : Qcow2 S F) (out : List (Option Prepared)) (step : InternalStep view backing p p a b out) where
+module _ {S F : Type 0} (view : S → StorageView) (backing : F → BackingView) (p : Pending) (a b : Qcow2 S F) (out : Mappings) (step : InternalStep view backing p p a b out) where
   pub with_tables : (table : EntryTableView) (allocator : Option Allocator) → HasL1Table view backing b.file table → IfSome allocator (IsAllocatorOf view b.file) → leaked_by allocator ≡ leaked_in b
       → InternalStep view backing p p a (record b { l1_table = table; allocator = allocator }) out
   with_tables table allocator l1 reftable leaks = record {
@@ -36,8 +36,7 @@ module _ {S F : Type 0} (view : S → StorageView) (backing : F → BackingView)
       file = step.sound.file;
       l1_table = l1;
       reftable = reftable;
-      inside = step.sound.inside;
-      alone = step.sound.alone;
+      stands = step.sound.stands;
       below = step.sound.below;
       ready = λ k q at. let r = step.sound.ready k q at in record { own = r.own; mapped = r.mapped };
       pinned = step.sound.pinned;
@@ -55,7 +54,7 @@ module _ {S F : Type 0} (view : S → StorageView) (backing : F → BackingView)
 -- ---- an image at rest whose tables are dropped
 module _ {S F : Type 0} (view : S → StorageView) (backing : F → BackingView) (image : Qcow2 S F) (caches' : MetadataCaches S) (list' : List ClustersToFreeEntry) (none : list' ≡ []) {U : Type 0} (taken : EvictsTable U image.file.caches caches')
     (order : order_of caches' ≡ order_of image.file.caches) (room : CachesHaveRoom image.file.caches → CachesHaveRoom caches') (pins : (table : ℕ) → l2_pins caches' table ≡ l2_pins image.file.caches table)
-    (rest : IsAtRest view image) (p : Pending) (out : List (Option Prepared)) (sound : ImageInvariant view backing p image out) where
+    (rest : IsAtRest view image) (p : Pending) (out : Mappings) (sound : ImageInvariant view backing p image out) where
   off : Evict U image.file.header.fields image.file.caches caches' (contents_in view image.file)
   off = taken image.file.header.fields p (contents_in view image.file) sound.file.caches
 
@@ -162,7 +161,7 @@ behind_dropped {v = v} is same keeps = record {
 }
 
 -- both kinds of tables are dropped, and the allocator begins anew
-pub anew_moved : {S F : Type 0} (view : S → StorageView) (backing : F → BackingView) (p : Pending) (old mid : Qcow2 S F) (caches' : MetadataCaches S) (a a' : Allocator) (out : List (Option Prepared)) → InternalStep view backing p p old mid out
+pub anew_moved : {S F : Type 0} (view : S → StorageView) (backing : F → BackingView) (p : Pending) (old mid : Qcow2 S F) (caches' : MetadataCaches S) (a a' : Allocator) (out : Mappings) → InternalStep view backing p p old mid out
     → InternalStep view backing p p mid (record mid { file = record mid.file { caches = caches' } }) out → mid.allocator ≡ Some a → SearchesAnew a a'
     → InternalStep view backing p p old (record mid { file = record mid.file { caches = caches' }; allocator = Some a' }) out
 anew_moved view backing p old mid caches' a a' out first second is anew =

@@ -1,6 +1,6 @@
 -- Reading the tables again returns what was in memory.
 use Rattle.std.proofs.Common.{◌≡◌, ℕ, Bool, List, Option, Some, Result, refl, sym, ap, ◌∙◌, subst, is_some}
-use Rattle.qcow2_image.proofs.Common.{BackingView, StorageView, IsLeftBy, passes_if, passes_none, passes_on, Bytes, byte_at, l1_entry, EntryTableView, HeaderView, header, with_fields, with_tables_of, OnlyReads, MetadataError, HeaderFields, Pending, IsTop, view_in, HasReftable, storage_of, IsAllocatorOf, IsPassed, Allocator, ImageFile, ImageStorage, HasL1Table, ImageInvariant, InternalStep, ContentsStayThroughout, Qcow2, Prepared, CountsChanges, counts_none, changes_of, is_changed_of, SameNotes, KeepsNotes, StandsBehindHeader, same_kept, notes_of_storage, IsBesideNumbers, IsL1TableBehind, KeepsTablesBehind, NamesTablesBehind, TablesBehindHeader, leaked_by, leaked_in, ReadsPlaces, ReadsTables, MetadataCaches}
+use Rattle.qcow2_image.proofs.Common.{BackingView, StorageView, IsLeftBy, passes_if, passes_none, passes_on, Bytes, byte_at, l1_entry, EntryTableView, HeaderView, header, with_fields, with_tables_of, OnlyReads, MetadataError, HeaderFields, Pending, IsTop, view_in, HasReftable, storage_of, IsAllocatorOf, IsPassed, Allocator, ImageFile, ImageStorage, HasL1Table, ImageInvariant, InternalStep, ContentsStayThroughout, Qcow2, Prepared, CountsChanges, counts_none, changes_of, is_changed_of, SameNotes, KeepsNotes, StandsBehindHeader, same_kept, notes_of_storage, IsBesideNumbers, IsL1TableBehind, KeepsTablesBehind, NamesTablesBehind, TablesBehindHeader, leaked_by, leaked_in, ReadsPlaces, ReadsTables, MetadataCaches, Mappings}
 use Rattle.qcow2_image.proofs.Map.Loading.{still_moved}
 
 -- ---- storages whose contents stay
@@ -32,7 +32,7 @@ pub begins_of : {S : Type 0} (view : S → StorageView) (file : ImageFile S) (a 
 begins_of view file a passed reftable = record { reftable = reftable; hint = λ k is. absurd (passed k is) }
 
 -- ---- a sound image whose storage was read
-module _ {S F : Type 0} (view : S → StorageView) (backing : F → BackingView) (image : Qcow2 S F) (out : List (Option Prepared)) (p : Pending) (sound : ImageInvariant view backing p image out) where
+module _ {S F : Type 0} (view : S → StorageView) (backing : F → BackingView) (image : Qcow2 S F) (out : Mappings) (p : Pending) (sound : ImageInvariant view backing p image out) where
   pub silent_moved : (storage' : ImageStorage S) → ContentsStayThroughout (view_in view image.file) (view (storage_of storage')) → InternalStep view backing p p image (record image { file = record image.file { storage = storage' } }) out
   silent_moved storage' silent =
       let honest = sound.file.honest in

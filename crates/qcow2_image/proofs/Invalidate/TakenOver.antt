@@ -1,6 +1,6 @@
 -- Tables are read with a header without names, and replace those in memory together with their pointers.
 use Rattle.std.proofs.Common.{◌≡◌, ◌<◌, ◌≤◌, ◌∙◌, ◌&&◌, is_none, is_some, Bool, false, true, ℕ, IsTrue, inl, inr, List, Option, Some, None, Result, Ok, Err, refl, sym, ap, subst}
-use Rattle.qcow2_image.proofs.Common.{cases_lt, IfSome, OnErr, BackingView, StorageView, EntryTableView, HeaderView, has_data_file, with_fields, with_tables_of, HeaderFields, Pending, view_in, HasReftable, IsAllocatorOf, Allocator, MetadataCaches, ImageError, ImageFile, KeepsTablesBehind, NamesTablesBehind, TablesBehindHeader, CountsImageFaults, ReportsEach, HasL1Table, ImageInvariant, KeepsTables, ReadsTables, ReplacesTables, reftable_in, InternalStep, Qcow2, Prepared}
+use Rattle.qcow2_image.proofs.Common.{cases_lt, IfSome, OnErr, BackingView, StorageView, EntryTableView, HeaderView, has_data_file, with_fields, with_tables_of, HeaderFields, Pending, view_in, HasReftable, IsAllocatorOf, Allocator, MetadataCaches, ImageError, ImageFile, KeepsTablesBehind, NamesTablesBehind, TablesBehindHeader, CountsImageFaults, ReportsEach, HasL1Table, ImageInvariant, KeepsTables, ReadsTables, ReplacesTables, reftable_in, InternalStep, Qcow2, Prepared, Mappings}
 use Rattle.qcow2_image.proofs.Invalidate.Reading.{behind_silent, stays_over, takes_over}
 
 -- the image with this header in memory
@@ -13,7 +13,7 @@ with_header image v = record image { file = record image.file { header = v } }
 renumbered : (w : HeaderView) (h : HeaderFields) → w.fields ≡ h → record w { fields = h } ≡ w
 renumbered w h same = ap (λ (f : HeaderFields). record w { fields = f }) (sym same)
 
-module _ {S F : Type 0} (view : S → StorageView) (backing : F → BackingView) (p : Pending) (out : List (Option Prepared)) where
+module _ {S F : Type 0} (view : S → StorageView) (backing : F → BackingView) (p : Pending) (out : Mappings) where
   own_named : (file : ImageFile S) (w : HeaderView) (o : Option Allocator) → IfSome o (IsAllocatorOf view file) → IfSome o (IsAllocatorOf view (record file { header = record w { fields = file.header.fields } }))
   own_named file w None own = tt
   own_named file w (Some a) own = record {
@@ -27,8 +27,7 @@ module _ {S F : Type 0} (view : S → StorageView) (backing : F → BackingView)
     file = record { honest = sound.file.honest; caches = sound.file.caches; named_blocks = sound.file.named_blocks; room = sound.file.room };
     l1_table = record { cluster = sound.l1_table.cluster; bits = sound.l1_table.bits; count = sound.l1_table.count; entries = sound.l1_table.entries };
     reftable = own_named image.file w image.allocator sound.reftable;
-    inside = sound.inside;
-    alone = sound.alone;
+    stands = sound.stands;
     below = sound.below;
     ready = λ k q at. let r = sound.ready k q at in record { own = r.own; mapped = r.mapped };
     pinned = sound.pinned;

@@ -1,6 +1,6 @@
 -- Why a lookup in a sound image is refused: its L1 table names aligned clusters, and if the cache has no room for an L2 table, a mapping is prepared.
 use Rattle.std.proofs.Common.{◌≡◌, ◌≢◌, ◌/◌, ◌%◌, inl, inr, ℕ, false, true, List, Option, Some, Result, Ok, Err, sym, ap, ◌∙◌, subst, IfErr}
-use Rattle.qcow2_image.proofs.Common.{IsOk, mod_below, BackingView, StorageView, host_offset, cluster_size, entries_per_cluster, HeaderFields, entry_at, Pending, table_at, Sizes-from, has_table, AreAllPinned, IsInUseOrFault, contents_in, known_in, IsEntryAt, ImageError, HasPinnedMapping, NamesL2Table, l1_index_of, l2_index_of, ImageInvariant, IsBegun, IsCacheHeld, MayFailLooking, Qcow2, Prepared}
+use Rattle.qcow2_image.proofs.Common.{IsOk, mod_below, BackingView, StorageView, host_offset, cluster_size, entries_per_cluster, HeaderFields, entry_at, Pending, table_at, Sizes-from, has_table, AreAllPinned, IsInUseOrFault, contents_in, known_in, IsEntryAt, ImageError, HasPinnedMapping, NamesL2Table, l1_index_of, l2_index_of, ImageInvariant, IsBegun, IsCacheHeld, MayFailLooking, Qcow2, Prepared, Mappings}
 use Rattle.qcow2_image.proofs.Prepare.MissingL2Table.{pinned_prepared}
 
 -- what answers is refused for nothing
@@ -9,10 +9,10 @@ answers_met C (Ok x) is = tt
 answers_met C (Err e) is = absurd (let no : false ≡ true = is in cc)
 
 -- what is held as a call has begun was held before
-pub held_since : {S F : Type 0} (old new : Qcow2 S F) (out : List (Option Prepared)) → IsBegun old new → (C : Type 0 → Type 0) → C (IsCacheHeld new out) → C (IsCacheHeld old out)
+pub held_since : {S F : Type 0} (old new : Qcow2 S F) (out : Mappings) → IsBegun old new → (C : Type 0 → Type 0) → C (IsCacheHeld new out) → C (IsCacheHeld old out)
 held_since old new out begun C is = subst (λ caches. C (AreAllPinned caches × HasPinnedMapping out)) begun.caches is
 
-module _ {S F : Type 0} (view : S → StorageView) (backing : F → BackingView) (out : List (Option Prepared)) (p : Pending) (image : Qcow2 S F) (sound : ImageInvariant view backing p image out) where
+module _ {S F : Type 0} (view : S → StorageView) (backing : F → BackingView) (out : Mappings) (p : Pending) (image : Qcow2 S F) (sound : ImageInvariant view backing p image out) where
   abbrev h : HeaderFields
   h = image.file.header.fields
 

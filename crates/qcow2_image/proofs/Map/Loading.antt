@@ -1,6 +1,6 @@
 -- Tables are loaded, written and evicted, and bytes are read, which guests don't see.
 use Rattle.std.proofs.Common.{◌≡◌, ◌+◌, ℕ, List, [], refl, sym, ap, ◌∙◌, subst, arith, Option, Result, Ok, Err, IfOk}
-use Rattle.qcow2_image.proofs.Common.{IfSome, BackingView, StorageView, IsLeftBy, QuietCalls, EachMomentSince, ContentsStay, Bytes, byte_at, l1_entry, reftable_entry, count, cover, append-nil, Pending, DriverState, StateInvariant, StopOkEverywhere, unseen_known, MetadataCaches, ImageStorage, Allocator, l2_pins, CachesHaveRoom, SameTables, storage_of, HeaderFields, cluster_size, CachedTable, known, AreNamedBlocks, StorageError, l2_tables, refblocks, known_of, AreAllWritten, CacheInvariant, InternalCacheStep, state_in, view_in, contents_in, known_in, IsAllocatorOf, allocator_kept, Qcow2, Prepared, cluster_of, ImageInvariant, InternalStep, cached_safe_throughout, safe_none, safe_keep, file_invariant_of}
+use Rattle.qcow2_image.proofs.Common.{IfSome, BackingView, StorageView, IsLeftBy, QuietCalls, EachMomentSince, ContentsStay, Bytes, byte_at, l1_entry, reftable_entry, count, cover, append-nil, Pending, DriverState, StateInvariant, StopOkEverywhere, unseen_known, MetadataCaches, ImageStorage, Allocator, l2_pins, CachesHaveRoom, SameTables, storage_of, HeaderFields, cluster_size, CachedTable, known, AreNamedBlocks, StorageError, l2_tables, refblocks, known_of, AreAllWritten, CacheInvariant, InternalCacheStep, state_in, view_in, contents_in, known_in, IsAllocatorOf, allocator_kept, Qcow2, Prepared, cluster_of, ImageInvariant, InternalStep, cached_safe_throughout, safe_none, safe_keep, file_invariant_of, Mappings}
 use Rattle.qcow2_laws.proofs.Lists.{clean_known}
 use Rattle.qcow2_image.proofs.Images.Ready.{still_ready}
 
@@ -12,7 +12,7 @@ module _ (s s' : DriverState) (sound : StateInvariant s) (sound' : StateInvarian
   same_reftable : (k : ℕ) → reftable_entry s.header s'.on_storage k ≡ reftable_entry s.header s.on_storage k
   same_reftable k = subst (λ h. reftable_entry h s'.on_storage k ≡ reftable_entry h s'.known k) header (sound'.same_top.reftable k) ∙ ap (λ b. reftable_entry s.header b k) known ∙ sym (sound.same_top.reftable k)
 
-module _ {S F : Type 0} (view : S → StorageView) (backing : F → BackingView) (old : Qcow2 S F) (out : List (Option Prepared)) (p : Pending) (sound : ImageInvariant view backing p old out) where
+module _ {S F : Type 0} (view : S → StorageView) (backing : F → BackingView) (old : Qcow2 S F) (out : Mappings) (p : Pending) (sound : ImageInvariant view backing p old out) where
   abbrev pub with_caches : ImageStorage S → MetadataCaches S → Qcow2 S F
   with_caches storage caches = record old { file = record old.file { storage = storage; caches = caches } }
 
@@ -39,12 +39,11 @@ module _ {S F : Type 0} (view : S → StorageView) (backing : F → BackingView)
         file = file_invariant_of stay.honest stay.sound (stay.named_blocks sound.file.named_blocks) (room sound.file.room);
         l1_table = record { cluster = sound.l1_table.cluster; bits = sound.l1_table.bits; count = sound.l1_table.count; entries = λ i. sound.l1_table.entries i ∙ sym (l1_still i) };
         reftable = allocator_still old.allocator sound.reftable;
-        inside = sound.inside;
-        alone = sound.alone;
+        stands = sound.stands;
         below = sound.below;
         ready = λ k q at. let r = sound.ready k q at in record {
           own = r.own;
-          mapped = still_ready old.file.header.fields (known_in view old.file) (contents_in view old.file) (known_in view (with_caches storage' caches').file) (contents_in view (with_caches storage' caches').file)
+          mapped = still_ready old.file.header.fields out.place (known_in view old.file) (contents_in view old.file) (known_in view (with_caches storage' caches').file) (contents_in view (with_caches storage' caches').file)
               q sound.file.caches.kept.kept.crash_invariant.same_top.l1 stay.sound.kept.kept.crash_invariant.same_top.l1 (λ i is. l1_still i) (λ i. ap (λ b. cover old.file.header.fields b (cluster_of old.file.header.fields q + i)) (sym stay.known)) q.table r.mapped;
         };
         pinned = λ table. pins table ∙ sound.pinned table;
@@ -99,7 +98,7 @@ module _ {S : Type 0} (h : HeaderFields) (p : Pending) (caches : MetadataCaches 
     since = safe_keep v v' (known_of h caches (byte_at v.contents)) time same;
   }
 
-module _ {S F : Type 0} (view : S → StorageView) (backing : F → BackingView) (image : Qcow2 S F) (out : List (Option Prepared)) (p : Pending) (sound : ImageInvariant view backing p image out) where
+module _ {S F : Type 0} (view : S → StorageView) (backing : F → BackingView) (image : Qcow2 S F) (out : Mappings) (p : Pending) (sound : ImageInvariant view backing p image out) where
   pub still_moved : (storage' : ImageStorage S) → (view (storage_of storage')).is_honest → EachMomentSince (view_in view image.file) (view (storage_of storage')) (IsLeftBy (view (storage_of storage')))
       → (view (storage_of storage')).contents ≡ (view_in view image.file).contents → InternalStep view backing p p image (with_caches view backing image out p sound storage' image.file.caches) out
   still_moved storage' honest time same = caches_moved view backing image out p sound storage' image.file.caches

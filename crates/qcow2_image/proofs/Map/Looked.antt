@@ -1,6 +1,6 @@
 -- What a lookup finds: the longest run of clusters that are mapped alike, within one L2 table.
 use Rattle.std.proofs.Common.{◌≡◌, ◌+◌, ◌-◌, ◌*◌, ◌/◌, ◌%◌, ◌^◌, ◌<◌, ◌≤◌, ◌≢◌, ◌==◌, if◌then◌else◌, ⊎_elim, ℕ, zero, suc, refl, sym, ap, ◌∙◌, arith, subst, min, Bool, true, false, is_some, List, None, Option}
-use Rattle.qcow2_image.proofs.Common.{is_beside, fun_ext, div-add-mod', div-mul-add, mod_below, div-div-eq-div-mul, div-mul-le_self, pow_mono, shr_mono, common_steps, Bytes, HeaderFields, cluster_size, entries_per_cluster, with_reftable, l2_entry, entry_at, cover, cover_of, entry_cover, L2TableView, L2Mapping, Data, Compressed, Uncovered, AreDataAt, IsAlike, IsAlikeAt, IsAlikeRun, IsDataAt, IsLongestRun, table_at, Sizes, cover_none, cover_in, Sizes-from, IsTableOf, run_first, run_less, run_begins, clusters_on, clusters_end, run_longest, cases_lt, BackingView, StorageView, contents_in, known_in, FileInvariant, ImageFile, IsEntryAt, ShowsKnown, Pending, SameCovers, cover_with, IsTop-top, Qcow2, MappingKind, size_of, Kind, raw, indirect, zeros, special, eof, kind_at, kind_in, rest_of_table, IsCompressed, Image, DataFile, Prepared, IsSpecial, InternalStep, found_kind, mapping_of, l1_index_of, AreAlikeBehind, IsAlikeTo, IsRunBehind, IsFoundInImage, IsFoundWhole, IsMappedAs}
+use Rattle.qcow2_image.proofs.Common.{is_beside, fun_ext, div-add-mod', div-mul-add, mod_below, div-div-eq-div-mul, div-mul-le_self, pow_mono, shr_mono, common_steps, Bytes, HeaderFields, cluster_size, entries_per_cluster, with_reftable, l2_entry, entry_at, cover, cover_of, entry_cover, L2TableView, L2Mapping, Data, Compressed, Uncovered, AreDataAt, IsAlike, IsAlikeAt, IsAlikeRun, IsDataAt, IsLongestRun, table_at, Sizes, cover_none, cover_in, Sizes-from, IsTableOf, run_first, run_less, run_begins, clusters_on, clusters_end, run_longest, cases_lt, BackingView, StorageView, contents_in, known_in, FileInvariant, ImageFile, IsEntryAt, ShowsKnown, Pending, SameCovers, cover_with, IsTop-top, Qcow2, MappingKind, size_of, Kind, raw, indirect, zeros, special, eof, kind_at, kind_in, rest_of_table, IsCompressed, Image, DataFile, Prepared, IsSpecial, InternalStep, found_kind, mapping_of, l1_index_of, AreAlikeBehind, IsAlikeTo, IsRunBehind, IsFoundInImage, IsFoundWhole, IsMappedAs, Mappings}
 use Rattle.qcow2_image.specs.declared.mapping.MappingKind.TheVariants as M
 use Rattle.qcow2_disk.specs.Found.{IsFound as IsFoundOf}
 
@@ -203,7 +203,7 @@ module _ (h : HeaderFields) (place clusters : ℕ) (known known' : Bytes) (cover
   }
 
 -- a range that is found whole after a step that guests don't see was found so before
-pub found_before : {S F : Type 0} (view : S → StorageView) (backing : F → BackingView) (old new : Qcow2 S F) (out : List (Option Prepared)) (p p' : Pending) (offset n : ℕ) (kind : MappingKind) → InternalStep view backing p p' old new out
+pub found_before : {S F : Type 0} (view : S → StorageView) (backing : F → BackingView) (old new : Qcow2 S F) (out : Mappings) (p p' : Pending) (offset n : ℕ) (kind : MappingKind) → InternalStep view backing p p' old new out
     → IsFoundWhole view new offset kind n → IsFoundWhole view old offset kind n
 found_before view backing old new out p p' offset n kind step whole =
     let h = old.file.header.fields in
@@ -213,7 +213,7 @@ found_before view backing old new out p p' offset n kind step whole =
     (subst (λ (x : HeaderFields). IsFoundOf x known (is_some new.backing) offset n (found_kind kind) n) step.unseen.header whole))
 
 -- a range that was found whole before such a step is found so after it
-pub found_after : {S F : Type 0} (view : S → StorageView) (backing : F → BackingView) (old new : Qcow2 S F) (out : List (Option Prepared)) (p p' : Pending) (offset n : ℕ) (kind : MappingKind) → InternalStep view backing p p' old new out
+pub found_after : {S F : Type 0} (view : S → StorageView) (backing : F → BackingView) (old new : Qcow2 S F) (out : Mappings) (p p' : Pending) (offset n : ℕ) (kind : MappingKind) → InternalStep view backing p p' old new out
     → IsFoundWhole view old offset kind n → IsFoundWhole view new offset kind n
 found_after view backing old new out p p' offset n kind step whole =
     let h = old.file.header.fields in

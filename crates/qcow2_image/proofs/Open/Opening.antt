@@ -1,6 +1,6 @@
 -- The header and the tables are loaded from the storage, and the autoclear bits are cleared: the file is as sound as before.
 use Rattle.std.proofs.Common.{◌≡◌, ◌*◌, ◌/◌, ◌^◌, ℕ, [], List, Result, length, refl, sym, ap, ◌∙◌, subst, arith, Some, None, false}
-use Rattle.qcow2_image.proofs.Common.{BackingView, StorageView, EachMomentSince, IsLeftBy, passes_if, Bytes, byte_at, HeaderView, cluster_size, HeaderFields, Consistent, IsConsistent, l1_entry, reftable_entry, EntryTableView, entry_table, NamesL1Table, IsL1TableOf, IsHeaderIn, entry_at, OnlyReads, MetadataError, AreNamedBlocks, Neither, Pending, CrashInvariant, nothing_pending, surplus_of, IsOpened, l1_entry-past, keep_safe_throughout, safe_throughout_then, ImageFile, ImageStorage, view_in, contents_in, nothing_given, storage_of, refblocks, known_of, CacheInvariant, own_cluster, file_invariant_of, Qcow2, is_failed, IsFresh, StaysFresh, IsLoaded, IsKeptSince, SameNames, HasNamesIn, HasL1Table, IsHonestBacking, ImageInvariant, of_data, of_tables, to_free, pending_in, abstract_of}
+use Rattle.qcow2_image.proofs.Common.{BackingView, StorageView, EachMomentSince, IsLeftBy, passes_if, Bytes, byte_at, HeaderView, cluster_size, HeaderFields, Consistent, IsConsistent, l1_entry, reftable_entry, EntryTableView, entry_table, NamesL1Table, IsL1TableOf, IsHeaderIn, entry_at, OnlyReads, MetadataError, AreNamedBlocks, Neither, Pending, CrashInvariant, nothing_pending, surplus_of, IsOpened, l1_entry-past, keep_safe_throughout, safe_throughout_then, ImageFile, ImageStorage, view_in, contents_in, nothing_given, storage_of, refblocks, known_of, CacheInvariant, own_cluster, file_invariant_of, Qcow2, is_failed, IsFresh, StaysFresh, IsLoaded, IsKeptSince, SameNames, HasNamesIn, HasL1Table, IsHonestBacking, ImageInvariant, of_data, of_tables, to_free, pending_in, abstract_of, in_image}
 use Rattle.qcow2_laws.proofs.Opened.{opened_crash_invariant}
 use Rattle.qcow2_alloc.specs.ImageFile.{l2_pins, CachesHaveRoom}
 use Rattle.qcow2_image.proofs.Images.Sound.{pending_is}
@@ -115,25 +115,24 @@ module _ {S F : Type 0} (view : S → StorageView) (backing : F → BackingView)
       }
 
   pub opened : (image : Qcow2 S F) (surplus : ℕ → ℕ) → is_failed image ≡ false → image.data_file ≡ None → IsHonestBacking view backing image.backing → IsLoaded view backing (nothing_pending surplus) image.file image.l1_table image.allocator
-      → IsOpened (abstract_of view backing image []) × ((abstract_of view backing image []).surplus ≡ surplus)
+      → IsOpened (abstract_of view backing image (in_image [])) × ((abstract_of view backing image (in_image [])).surplus ≡ surplus)
   opened image surplus works alone below loaded =
       let p = nothing_pending surplus in
-      let at : ImageInvariant view backing p image [] = record {
+      let at : ImageInvariant view backing p image (in_image []) = record {
         works = works;
         file = loaded.new_tables.sound;
         l1_table = loaded.l1_table;
         reftable = loaded.reftable;
-        inside = loaded.new_tables.inside;
-        alone = alone;
+        stands = record { inside = loaded.new_tables.inside; alone = alone };
         below = below;
         ready = λ k q none. absurd cc;
         pinned = loaded.new_tables.unpinned;
         once = λ table. omega arith;
       } in
-      let is : p ≡ pending_in view backing image [] = pending_is view backing image [] p loaded.new_tables.sound.caches.kept.kept.crash_invariant loaded.new_tables.inside (record {
+      let is : p ≡ pending_in view backing image (in_image []) = pending_is view backing image (in_image []) p loaded.new_tables.sound.caches.kept.kept.crash_invariant loaded.new_tables.inside (record {
         new_data = λ k. refl;
         new_tables = λ k. refl;
         old_tables = λ k. ap (λ l. to_free of_tables l k) (sym loaded.new_tables.list);
         old_data = λ k. ap (λ l. to_free of_data l k) (sym loaded.new_tables.list);
       }) in
-      (record { sound = subst (λ q. ImageInvariant view backing q image []) is at; clean = loaded.new_tables.clean (contents_in view image.file) }, sym (ap (λ (q : Pending). q.surplus) is))
+      (record { sound = subst (λ q. ImageInvariant view backing q image (in_image [])) is at; clean = loaded.new_tables.clean (contents_in view image.file) }, sym (ap (λ (q : Pending). q.surplus) is))

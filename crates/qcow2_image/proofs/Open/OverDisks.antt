@@ -1,6 +1,7 @@
 -- An image that was just opened, over another backing disk and with another data file.
 use Rattle.std.proofs.Common.{◌≡◌, Bool, [], ℕ, None, Option, Ok}
-use Rattle.qcow2_image.proofs.Common.{BackingView, StorageView, ImageInvariant, IsHonestBacking, pending_in, Opens, IsNewlyOpened, OpeningStep, Missing, Qcow2}
+use Rattle.qcow2_image.proofs.Common.{BackingView, StorageView, ImageInvariant, IsHonestBacking, pending_in, Opens, IsNewlyOpened, OpeningStep, Missing, Qcow2, in_image}
+use Rattle.qcow2_image.proofs.Images.Places.{inside_of}
 
 module _ {S F : Type 0} (view : S → StorageView) (before : StorageView) (writable : Bool) (missing : Missing) (image : Qcow2 S F) (disk : Option F) (file : Option S) where
   pub step_over : OpeningStep view before writable missing (Ok image) → OpeningStep view before writable missing (Ok (record image { backing = disk; data_file = file }))
@@ -27,15 +28,14 @@ module _ {S F : Type 0} (before : StorageView) (writable : Bool) (number : ℕ) 
   }
 
 module _ {S F : Type 0} (view : S → StorageView) (backing : F → BackingView) where
-  sound_over : (image : Qcow2 S F) (disk : Option F) (file : Option S) → IsHonestBacking view backing disk → file ≡ None → ImageInvariant view backing (pending_in view backing image []) image []
-      → ImageInvariant view backing (pending_in view backing image []) (record image { backing = disk; data_file = file }) []
+  sound_over : (image : Qcow2 S F) (disk : Option F) (file : Option S) → IsHonestBacking view backing disk → file ≡ None → ImageInvariant view backing (pending_in view backing image (in_image [])) image (in_image [])
+      → ImageInvariant view backing (pending_in view backing image (in_image [])) (record image { backing = disk; data_file = file }) (in_image [])
   sound_over image disk file stays none sound = record {
     works = sound.works;
     file = sound.file;
     l1_table = record { cluster = sound.l1_table.cluster; bits = sound.l1_table.bits; count = sound.l1_table.count; entries = sound.l1_table.entries };
     reftable = sound.reftable;
-    inside = sound.inside;
-    alone = none;
+    stands = record { inside = inside_of sound; alone = none };
     below = stays;
     ready = λ k q there. absurd cc;
     pinned = sound.pinned;

@@ -1,5 +1,5 @@
 -- Why filling a range, and growing a disk, is refused on a sound image.
-use Rattle.qcow2_image.proofs.Common.{div-lt_iff_lt-mul, cases_lt, div-add-mod', mul-le, pow_pos, BackingView, StorageView, PreallocateMode, Bytes, cover, HasRoomIfPlaced, entry_count, cluster_size, entries_per_cluster, rounded_up, copied_host, zero_cover, HeaderFields, L2Mapping, Compressed, IsCompressed, Touches, is_copied_data, Pending, IsFault, known_in, ImageError, HasPinnedMapping, InternalCall, IsUnderMapping, l1_index_of, ImageInvariant, NeedsOverflowingL1Entry, ReachesOffset, IsPlacedNear, copied_end, CopiesCompressed, HasCompressedIn, HasNearEntries, MayFailGrowing, MayFailAllocating, KeepsL1Place, MovesTables, FillsPart, IsTaken, Qcow2, Prepared}
+use Rattle.qcow2_image.proofs.Common.{div-lt_iff_lt-mul, cases_lt, div-add-mod', mul-le, pow_pos, BackingView, StorageView, PreallocateMode, Bytes, cover, HasRoomIfPlaced, entry_count, cluster_size, entries_per_cluster, rounded_up, copied_host, zero_cover, HeaderFields, L2Mapping, Compressed, IsCompressed, Touches, is_copied_data, Pending, IsFault, known_in, ImageError, HasPinnedMapping, InternalCall, IsUnderMapping, l1_index_of, ImageInvariant, NeedsOverflowingL1Entry, ReachesOffset, IsPlacedNear, copied_end, CopiesCompressed, HasCompressedIn, HasNearEntries, MayFailGrowing, MayFailAllocating, KeepsL1Place, MovesTables, FillsPart, IsTaken, Qcow2, Prepared, Mappings}
 use Rattle.std.proofs.Common.{◌≡◌, ◌⊎◌, ◌+◌, ◌-◌, ◌*◌, ◌/◌, ◌%◌, ◌^◌, ◌<◌, ◌≤◌, inl, inr, ℕ, Bool, true, false, List, Option, Some, None, sym, ap, ◌∙◌, subst, arith, pow_mono}
 use Rattle.qcow2_disk.specs.GrownCovers.{FilledCovers}
 use Rattle.qcow2_image.proofs.Grow.L1Lengths.{index_moved, index_rising, last_cluster}
@@ -12,14 +12,14 @@ use Rattle.qcow2_image.proofs.Prepare.Unannounced.{compressed_in}
 -- ---- refusals
 
 -- clusters that are listed are freed after the refusal, or a fault refuses that
-pub met_filling_freed : (out : List (Option Prepared)) (mode : PreallocateMode) (from to : ℕ) (h : HeaderFields) (known : Bytes) (e e' : ImageError) → (e' ≡ e) ⊎ IsFault e' → MayFailGrowing out mode from to h known e → MayFailGrowing out mode from to h known e'
+pub met_filling_freed : (out : Mappings) (mode : PreallocateMode) (from to : ℕ) (h : HeaderFields) (known : Bytes) (e e' : ImageError) → (e' ≡ e) ⊎ IsFault e' → MayFailGrowing out mode from to h known e → MayFailGrowing out mode from to h known e'
 met_filling_freed out mode from to h known e e' told may_fail = elim told [ inl same ↦ subst (MayFailGrowing out mode from to h known) (sym same) may_fail | inr fault ↦ inl (inl (inl (inl fault))) ]
 
 -- a mapping for which a table is kept is prepared
-pub taken_prepared : (h : HeaderFields) (known : Bytes) (offset n : ℕ) (out : List (Option Prepared)) → IsTaken h known offset n out → HasPinnedMapping out
+pub taken_prepared : (h : HeaderFields) (known : Bytes) (offset n : ℕ) (out : Mappings) → IsTaken h known offset n out → HasPinnedMapping out
 taken_prepared h known offset n out taken = record { place = taken.place; mapping = taken.other; there = taken.is_out; pins = taken.keeps_table }
 
-pub under_prepared : (h : HeaderFields) (offset : ℕ) (out : List (Option Prepared)) → IsUnderMapping h offset out → HasPinnedMapping out
+pub under_prepared : (h : HeaderFields) (offset : ℕ) (out : Mappings) → IsUnderMapping h offset out → HasPinnedMapping out
 under_prepared h offset out under = record { place = under.place; mapping = under.other; there = under.is_out; pins = under.keeps_table }
 
 -- ---- what is compressed
@@ -92,7 +92,7 @@ room_near h bits cluster index same is within near =
     let size : h.l1_offset / cluster_size h * 2 ^ bits ≡ h.l1_offset / cluster_size h * cluster_size h = ap (λ b. h.l1_offset / cluster_size h * 2 ^ b) same in
     subst (λ (o : Option ℕ). HasRoomIfPlaced bits (8 * index) o) (sym is) (omega (arith, parts, size, within, near))
 
-module _ {S F : Type 0} (view : S → StorageView) (backing : F → BackingView) (out : List (Option Prepared)) where
+module _ {S F : Type 0} (view : S → StorageView) (backing : F → BackingView) (out : Mappings) where
   module _ (p : Pending) (image : Qcow2 S F) (sound : ImageInvariant view backing p image out) (from to : ℕ) (lt : from < to) (near : HasNearEntries to image.file.header.fields) where
     -- the table has an entry for each byte before
     pub entry_reached : l1_index_of image.file.header.fields from < entry_count image.l1_table
@@ -150,7 +150,7 @@ module _ {S F : Type 0} (view : S → StorageView) (backing : F → BackingView)
         near_moved old.file.header.fields now.file.header.fields to to' part.header (part.l1_table (omega (arith, rising, reaches))) le near
 
 -- ---- a larger disk
-module _ {S F : Type 0} (view : S → StorageView) (backing : F → BackingView) (out : List (Option Prepared)) where
+module _ {S F : Type 0} (view : S → StorageView) (backing : F → BackingView) (out : Mappings) where
   -- the entries of an L1 table that was made as long as a size asks for are near, up to the end of the last cluster
   pub near_longer_ends : (h : HeaderFields) (p : Pending) (long : Qcow2 S F) (size : ℕ) → 0 < size → MovesTables h long.file.header.fields → ReachesOffset (size - 1) h long.file.header.fields → ImageInvariant view backing p long out → IsPlacedNear long.l1_table
       → HasNearEntries (rounded_up (cluster_size long.file.header.fields) size) long.file.header.fields

@@ -1,6 +1,6 @@
 -- A range is filled step by step.
 use Rattle.std.proofs.Common.{◌≡◌, ◌%◌, ◌<◌, ◌≤◌, ℕ, max, List, Option, refl, sym, ap, ◌∙◌, subst, arith}
-use Rattle.qcow2_image.proofs.Common.{BackingView, StorageView, HeaderFields, cluster_size, ImageError, Qcow2, Prepared, ImageStays, ImageInvariant, abstract_of, pending_in, MovesTables, PreservesHeaderCluster, FillsPart, IsWholeRange, RefusedFill}
+use Rattle.qcow2_image.proofs.Common.{BackingView, StorageView, HeaderFields, cluster_size, ImageError, Qcow2, Prepared, ImageStays, ImageInvariant, abstract_of, pending_in, MovesTables, PreservesHeaderCluster, FillsPart, IsWholeRange, RefusedFill, Mappings}
 use Rattle.qcow2_image.proofs.Call.Called.{works_none}
 use Rattle.qcow2_image.proofs.Preallocate.Filled.{fills_none, fills_then, refused_after}
 use Rattle.qcow2_image.proofs.Call.ImageSteps.{stays_then}
@@ -25,7 +25,7 @@ module _ {S F : Type 0} (view : S → StorageView) (backing : F → BackingView)
     pub stays : ImageStays old now
     pub low : from ≤ at
     pub high : at ≤ max from to
-    pub so_far : (out : List (Option Prepared)) → ImageInvariant view backing (pending_in view backing old out) old out → from ≤ to → IsWholeRange old.file.header.fields from to → 3 ≤ old.file.header.fields.version
+    pub so_far : (out : Mappings) → ImageInvariant view backing (pending_in view backing old out) old out → from ≤ to → IsWholeRange old.file.header.fields from to → 3 ≤ old.file.header.fields.version
         → FillsPart view backing 0 from at old now out × (at % cluster_size old.file.header.fields ≡ 0)
 
   pub zeroed_first : (old : Qcow2 S F) → ZeroedTo from old old
@@ -38,8 +38,8 @@ module _ {S F : Type 0} (view : S → StorageView) (backing : F → BackingView)
 
   module _ (at : ℕ) (old now new : Qcow2 S F) (lt : at < to) (before : ZeroedTo at old now) where
     pub zeroed_next : (next : ℕ) → ImageStays now new → at ≤ next → next ≤ max at to
-        → ((out : List (Option Prepared)) → ImageInvariant view backing (pending_in view backing now out) now out → IsWholeRange now.file.header.fields at to → next % cluster_size now.file.header.fields ≡ 0)
-        → ((out : List (Option Prepared)) → ImageInvariant view backing (pending_in view backing now out) now out → at ≤ to → IsWholeRange now.file.header.fields at to → 3 ≤ now.file.header.fields.version → FillsPart view backing 0 at next now new out)
+        → ((out : Mappings) → ImageInvariant view backing (pending_in view backing now out) now out → IsWholeRange now.file.header.fields at to → next % cluster_size now.file.header.fields ≡ 0)
+        → ((out : Mappings) → ImageInvariant view backing (pending_in view backing now out) now out → at ≤ to → IsWholeRange now.file.header.fields at to → 3 ≤ now.file.header.fields.version → FillsPart view backing 0 at next now new out)
         → ZeroedTo next old new
     zeroed_next next stays le most ends fills = let low = before.low in record {
       stays = stays_then before.stays stays;
@@ -55,8 +55,8 @@ module _ {S F : Type 0} (view : S → StorageView) (backing : F → BackingView)
     }
 
     pub zeroed_refused : PreservesHeaderCluster view old now → (e : ImageError)
-        → ((out : List (Option Prepared)) → ImageInvariant view backing (pending_in view backing now out) now out → at ≤ to → IsWholeRange now.file.header.fields at to → 3 ≤ now.file.header.fields.version → RefusedFill view backing at to now new out e)
-        → (out : List (Option Prepared)) → ImageInvariant view backing (pending_in view backing old out) old out → from ≤ to → IsWholeRange old.file.header.fields from to → 3 ≤ old.file.header.fields.version
+        → ((out : Mappings) → ImageInvariant view backing (pending_in view backing now out) now out → at ≤ to → IsWholeRange now.file.header.fields at to → 3 ≤ now.file.header.fields.version → RefusedFill view backing at to now new out e)
+        → (out : Mappings) → ImageInvariant view backing (pending_in view backing old out) old out → from ≤ to → IsWholeRange old.file.header.fields from to → 3 ≤ old.file.header.fields.version
         → RefusedFill view backing from to old new out e
     zeroed_refused behind e refused out sound first whole version =
         let so = before.so_far out sound first whole version in
@@ -71,14 +71,14 @@ module _ {S F : Type 0} (view : S → StorageView) (backing : F → BackingView)
     pub stays : ImageStays old now
     pub low : from ≤ at
     pub high : at ≤ max from to
-    pub so_far : (out : List (Option Prepared)) → ImageInvariant view backing (pending_in view backing old out) old out → to % cluster_size old.file.header.fields ≡ 0 → FillsPart view backing to from at old now out
+    pub so_far : (out : Mappings) → ImageInvariant view backing (pending_in view backing old out) old out → to % cluster_size old.file.header.fields ≡ 0 → FillsPart view backing to from at old now out
 
   pub filled_first : (old : Qcow2 S F) → FilledTo from old old
   filled_first old = record { stays = stays_none old; low = omega arith; high = omega arith; so_far = λ out sound whole. fills_none view backing out old to from sound (works_none (abstract_of view backing old out) sound) }
 
   module _ (at : ℕ) (old now new : Qcow2 S F) (lt : at < to) (before : FilledTo at old now) where
     pub filled_next : (next : ℕ) → ImageStays now new → at < next → next ≤ to
-        → ((out : List (Option Prepared)) → ImageInvariant view backing (pending_in view backing now out) now out → to % cluster_size now.file.header.fields ≡ 0 → FillsPart view backing to at next now new out) → FilledTo next old new
+        → ((out : Mappings) → ImageInvariant view backing (pending_in view backing now out) now out → to % cluster_size now.file.header.fields ≡ 0 → FillsPart view backing to at next now new out) → FilledTo next old new
     filled_next next stays more most fills = let low = before.low in record {
       stays = stays_then before.stays stays;
       low = omega (arith, low, more);
@@ -89,8 +89,8 @@ module _ {S F : Type 0} (view : S → StorageView) (backing : F → BackingView)
     }
 
     pub filled_refused : PreservesHeaderCluster view old now → (e : ImageError)
-        → ((out : List (Option Prepared)) → ImageInvariant view backing (pending_in view backing now out) now out → to % cluster_size now.file.header.fields ≡ 0 → RefusedFill view backing at to now new out e)
-        → (out : List (Option Prepared)) → ImageInvariant view backing (pending_in view backing old out) old out → to % cluster_size old.file.header.fields ≡ 0 → RefusedFill view backing from to old new out e
+        → ((out : Mappings) → ImageInvariant view backing (pending_in view backing now out) now out → to % cluster_size now.file.header.fields ≡ 0 → RefusedFill view backing at to now new out e)
+        → (out : Mappings) → ImageInvariant view backing (pending_in view backing old out) old out → to % cluster_size old.file.header.fields ≡ 0 → RefusedFill view backing from to old new out e
     filled_refused behind e refused out sound whole =
         let so = before.so_far out sound whole in
         let low = before.low in

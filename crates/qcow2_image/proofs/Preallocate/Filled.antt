@@ -1,6 +1,6 @@
 -- Parts of preallocation, one after another.
 use Rattle.std.proofs.Common.{◌≡◌, ◌⊎◌, ◌+◌, ◌-◌, ◌%◌, ◌^◌, ◌<◌, ◌≤◌, ◌∷◌, ⊎_elim, inl, inr, ℕ, min, true, false, List, [], refl, sym, ap, ◌∙◌, subst, arith, IsTrue, Option, Result, Ok, Err}
-use Rattle.qcow2_image.proofs.Common.{GoesTo, BackingView, StorageView, HeaderFields, cluster_size, entries_per_cluster, rest_of_table, cases_lt, Guest, guest_of, EffectOnSound, with_disk, Disk, zeroed_between, GivenBytes, works_less, works_then, stops_as, known_in, ImageError, has_noted_change, RefusedCall, InternalCall, ClearsPart, IsUnderMapping, KeptZeros, Qcow2, Prepared, ImageInvariant, abstract_of, disk_of, pending_in, l1_index_of, KeepsL1Place, MovesTables, ChangesFree, FilledCovers, FillsOrRefuses, FillsPart, FillsSome, InterruptedGiving, IsUnderMappingIn, MayBeZero, RefusedFill, given_by_zeros, MayFail, MayFailIf, IsUnlimited, pow_pos}
+use Rattle.qcow2_image.proofs.Common.{GoesTo, BackingView, StorageView, HeaderFields, cluster_size, entries_per_cluster, rest_of_table, cases_lt, Guest, guest_of, EffectOnSound, with_disk, Disk, zeroed_between, GivenBytes, works_less, works_then, stops_as, known_in, ImageError, has_noted_change, RefusedCall, InternalCall, ClearsPart, IsUnderMapping, KeptZeros, Qcow2, Prepared, ImageInvariant, abstract_of, disk_of, pending_in, l1_index_of, KeepsL1Place, MovesTables, ChangesFree, FilledCovers, FillsOrRefuses, FillsPart, FillsSome, InterruptedGiving, IsUnderMappingIn, MayBeZero, RefusedFill, given_by_zeros, MayFail, MayFailIf, IsUnlimited, pow_pos, Mappings}
 use Rattle.qcow2_alloc.specs.ImageError.{IsFault as FaultOfTables}
 use Rattle.qcow2_alloc.specs.declared.error.ImageError.TheVariants as I
 use Rattle.qcow2_image.proofs.Call.Called.{works_none}
@@ -20,7 +20,7 @@ pub met_taken : {A : Type 0} (unaligned : Type 0) (e : ImageError) → MayFailIf
 met_taken unaligned e may_fail is = absurd (subst (MayFailIf unaligned) is may_fail)
 
 -- a prepared table of a part is one of the whole, by the header before
-pub taken_wider : (h h' : HeaderFields) (from to from' to' : ℕ) (out : List (Option Prepared)) → MovesTables h h' → from' ≤ from → to ≤ to' → IsUnderMappingIn h' from to out → IsUnderMappingIn h from' to' out
+pub taken_wider : (h h' : HeaderFields) (from to from' to' : ℕ) (out : Mappings) → MovesTables h h' → from' ≤ from → to ≤ to' → IsUnderMappingIn h' from to out → IsUnderMappingIn h from' to' out
 taken_wider h h' from to from' to' out file_step low high is = let a = is.low in let b = is.high in record {
   offset = is.offset;
   low = omega arith;
@@ -28,7 +28,7 @@ taken_wider h h' from to from' to' out file_step low high is = let a = is.low in
   under = under_before h h' is.offset out file_step is.under;
 }
 
-pub taken_here : (h : HeaderFields) (from to : ℕ) (out : List (Option Prepared)) → from < to → IsUnderMapping h from out → IsUnderMappingIn h from to out
+pub taken_here : (h : HeaderFields) (from to : ℕ) (out : Mappings) → from < to → IsUnderMapping h from out → IsUnderMappingIn h from to out
 taken_here h from to out lt under = record { offset = from; low = omega arith; high = lt; under = under }
 
 -- where the first L2 table of a range ends, or the range does
@@ -46,7 +46,7 @@ module _ (h : HeaderFields) (some : 0 < cluster_size h) (rows : 0 < entries_per_
         ap (λ x. x % cluster_size h) e ∙ whole
   ]
 
-module _ {S F : Type 0} (view : S → StorageView) (backing : F → BackingView) (out : List (Option Prepared)) where
+module _ {S F : Type 0} (view : S → StorageView) (backing : F → BackingView) (out : Mappings) where
   -- zeros of a part are zeros of the whole
   wider_works : (old new : Qcow2 S F) (from to from' to' : ℕ) → from' ≤ from → to ≤ to' → EffectOnSound (abstract_of view backing old out) (abstract_of view backing new out) (given_by_zeros from to ∷ []) []
       → EffectOnSound (abstract_of view backing old out) (abstract_of view backing new out) (given_by_zeros from' to' ∷ []) []
@@ -74,7 +74,7 @@ module _ {S F : Type 0} (view : S → StorageView) (backing : F → BackingView)
   fills_none image first from sound works = record {
     works = none_of _ _ (given_by_zeros from from ∷ []) works;
     sound = sound;
-    shows = ap (λ (d : Disk). with_disk (guest_of (abstract_of view backing image out)) d) (sym (zeroed_none (disk_of view backing image) from from (omega arith)));
+    shows = ap (λ (d : Disk). with_disk (guest_of (abstract_of view backing image out)) d) (sym (zeroed_none (disk_of view backing out.place image) from from (omega arith)));
     header = refl;
     l1_table = λ within. (refl, refl);
     covers = covers_none (cluster_size image.file.header.fields) (pow_pos image.file.header.fields.cluster_bits) first from image.file.header.fields (known_in view image.file);
@@ -86,8 +86,8 @@ module _ {S F : Type 0} (view : S → StorageView) (backing : F → BackingView)
   fill_unseen old new from to e (inl stays) = inl (record {
     works = none_of _ _ (given_by_zeros from to ∷ []) stays.works;
     sound = stays.sound;
-    now = disk_of view backing old;
-    may = may_none from to (disk_of view backing old);
+    now = disk_of view backing out.place old;
+    may = may_none from to (disk_of view backing out.place old);
     shows = stays.same;
   })
   fill_unseen old new from to e (inr interrupted) = inr (record { fault = interrupted.fault; recorded = interrupted.recorded; works = none_of _ _ (given_by_zeros from to ∷ []) interrupted.works })
@@ -97,8 +97,8 @@ module _ {S F : Type 0} (view : S → StorageView) (backing : F → BackingView)
   some_none image from to sound = record {
     works = none_of _ _ (given_by_zeros from to ∷ []) (works_none (abstract_of view backing image out) sound);
     sound = sound;
-    now = disk_of view backing image;
-    may = may_none from to (disk_of view backing image);
+    now = disk_of view backing out.place image;
+    may = may_none from to (disk_of view backing out.place image);
     shows = refl;
   }
 
@@ -121,7 +121,7 @@ module _ {S F : Type 0} (view : S → StorageView) (backing : F → BackingView)
     fills_then first then = record {
       works = works_then (abstract_of view backing a out) (abstract_of view backing b out) (abstract_of view backing c out) (given_by_zeros from to ∷ []) [] first.sound (wider_works a b from mid from to (omega arith) high first.works) (wider_works b c mid to from to low (omega arith) then.works);
       sound = then.sound;
-      shows = then.shows ∙ ap (λ (g : Guest). with_disk g (zeroed_between g.disk mid to)) first.shows ∙ ap (λ (d : Disk). with_disk (guest_of (abstract_of view backing a out)) d) (zeroed_then (disk_of view backing a) from mid to low high);
+      shows = then.shows ∙ ap (λ (g : Guest). with_disk g (zeroed_between g.disk mid to)) first.shows ∙ ap (λ (d : Disk). with_disk (guest_of (abstract_of view backing a out)) d) (zeroed_then (disk_of view backing out.place a) from mid to low high);
       header = file_step_then a.file.header.fields b.file.header.fields c.file.header.fields first.header then.header;
       l1_table = reaching_stays_then a.file.header.fields b.file.header.fields c.file.header.fields to first.header (reaching_stays_shorter a.file.header.fields b.file.header.fields mid to high first.l1_table) then.l1_table;
       covers = covers_then (cluster_size a.file.header.fields) (pow_pos a.file.header.fields.cluster_bits) zeros a.file.header.fields (known_in view a.file) b.file.header.fields (known_in view b.file) c.file.header.fields (known_in view c.file) from mid to low high first.covers
@@ -135,7 +135,7 @@ module _ {S F : Type 0} (view : S → StorageView) (backing : F → BackingView)
     fills_before first then = record {
       works = works_then (abstract_of view backing a out) (abstract_of view backing b out) (abstract_of view backing c out) (given_by_zeros from to ∷ []) [] first.sound (wider_works a b mid to from to low (omega arith) first.works) (wider_works b c from mid from to (omega arith) high then.works);
       sound = then.sound;
-      shows = then.shows ∙ ap (λ (g : Guest). with_disk g (zeroed_between g.disk from mid)) first.shows ∙ ap (λ (d : Disk). with_disk (guest_of (abstract_of view backing a out)) d) (zeroed_before (disk_of view backing a) from mid to low high);
+      shows = then.shows ∙ ap (λ (g : Guest). with_disk g (zeroed_between g.disk from mid)) first.shows ∙ ap (λ (d : Disk). with_disk (guest_of (abstract_of view backing a out)) d) (zeroed_before (disk_of view backing out.place a) from mid to low high);
       header = file_step_then a.file.header.fields b.file.header.fields c.file.header.fields first.header then.header;
       l1_table = reaching_stays_then a.file.header.fields b.file.header.fields c.file.header.fields to first.header first.l1_table (reaching_stays_shorter b.file.header.fields c.file.header.fields mid to high then.l1_table);
       covers = covers_before (cluster_size a.file.header.fields) (pow_pos a.file.header.fields.cluster_bits) zeros a.file.header.fields (known_in view a.file) b.file.header.fields (known_in view b.file) c.file.header.fields (known_in view c.file) from mid to low high first.covers
@@ -151,8 +151,8 @@ module _ {S F : Type 0} (view : S → StorageView) (backing : F → BackingView)
       works = works_then (abstract_of view backing a out) (abstract_of view backing b out) (abstract_of view backing c out) (given_by_zeros from to ∷ []) [] first.sound (wider_works a b x y from to low high first.works) (wider_works b c x' y' from to low' high' then.works);
       sound = then.sound;
       now = then.now;
-      may = may_then from to (disk_of view backing a) (zeroed_between (disk_of view backing a) x y) then.now (may_wider x y from to (disk_of view backing a) (zeroed_between (disk_of view backing a) x y) low high (may_zeroed x y (disk_of view backing a)))
-          (subst (λ (d : Disk). MayBeZero from to d then.now) (ap (λ (g : Guest). g.disk) first.shows) (may_wider x' y' from to (disk_of view backing b) then.now low' high' then.may));
+      may = may_then from to (disk_of view backing out.place a) (zeroed_between (disk_of view backing out.place a) x y) then.now (may_wider x y from to (disk_of view backing out.place a) (zeroed_between (disk_of view backing out.place a) x y) low high (may_zeroed x y (disk_of view backing out.place a)))
+          (subst (λ (d : Disk). MayBeZero from to d then.now) (ap (λ (g : Guest). g.disk) first.shows) (may_wider x' y' from to (disk_of view backing out.place b) then.now low' high' then.may));
       shows = then.shows ∙ ap (λ (g : Guest). with_disk g then.now) first.shows;
     }
 
@@ -200,7 +200,7 @@ module _ {S F : Type 0} (view : S → StorageView) (backing : F → BackingView)
   pub cleared_fills : (old new : Qcow2 S F) (from to : ℕ) → from < to → (entries : ℕ) → entries ≡ old.file.header.fields.l1_entries → (l1_index_of old.file.header.fields from < entries → KeepsL1Place old.file.header.fields new.file.header.fields) → from % cluster_size old.file.header.fields ≡ 0 → ClearsPart view backing KeptZeros from to old new out
       → ChangesFree (cluster_size old.file.header.fields) 0 from to old.file.header.fields (known_in view old.file) out → FillsPart view backing 0 from to old new out
   cleared_fills old new from to lt entries count stays whole part free = record {
-    works = works_less (abstract_of view backing old out) (abstract_of view backing new out) _ (given_by_zeros from to ∷ []) [] (λ o w given. inr (shown_zeros (disk_of view backing old) from to o w given)) (touches_part (cluster_size old.file.header.fields) _ _ _ _ (omega arith) (omega arith)) part.works;
+    works = works_less (abstract_of view backing old out) (abstract_of view backing new out) _ (given_by_zeros from to ∷ []) [] (λ o w given. inr (shown_zeros (disk_of view backing out.place old) from to o w given)) (touches_part (cluster_size old.file.header.fields) _ _ _ _ (omega arith) (omega arith)) part.works;
     sound = part.sound;
     shows = part.shows;
     header = part.header;

@@ -1,6 +1,6 @@
 -- Zeros past the end of a disk, before its size grows.
 use Rattle.std.proofs.Common.{◌≡◌, ◌+◌, ◌-◌, ◌*◌, ◌/◌, ◌%◌, ◌<◌, ◌≤◌, ◌∷◌, ◌||◌, ⊎_elim, inl, inr, ℕ, true, false, List, [], Option, refl, sym, ap, ◌∙◌, subst, arith, Result, Ok, Err}
-use Rattle.qcow2_image.proofs.Common.{cases_lt, cond-false, lt-leb, div-add-mod', mod-mul-add, mod_below, BackingView, StorageView, PreallocateMode, Value, known_byte, cluster_size, rounded_up, guest_of, shows_old, with_disk, Disk, zeroed_between, given_shown, GivenBytes, IsGiven, works_less, TouchesLess, known_in, ImageError, Qcow2, Prepared, size_of, ImageInvariant, abstract_of, disk_of, pending_in, ChangesFree, FilledCovers, FillsGrown, FillsGrownInPart, FillsGrownOrRefuses, FillsOrRefuses, FillsPart, FillsSome, InterruptedGiving, IsUnderMappingIn, RefusedFill, RefusedGrown, filled_to, given_by_zeros, all_given_by_growing, MayFail, IsUnlimited}
+use Rattle.qcow2_image.proofs.Common.{cases_lt, cond-false, lt-leb, div-add-mod', mod-mul-add, mod_below, BackingView, StorageView, PreallocateMode, Value, known_byte, cluster_size, rounded_up, guest_of, shows_old, with_disk, Disk, zeroed_between, given_shown, GivenBytes, IsGiven, works_less, TouchesLess, known_in, ImageError, Qcow2, Prepared, size_of, ImageInvariant, abstract_of, disk_of, pending_in, ChangesFree, FilledCovers, FillsGrown, FillsGrownInPart, FillsGrownOrRefuses, FillsOrRefuses, FillsPart, FillsSome, InterruptedGiving, IsUnderMappingIn, RefusedFill, RefusedGrown, filled_to, given_by_zeros, all_given_by_growing, MayFail, IsUnlimited, Mappings}
 use Rattle.image_access.specs.declared.storage.PreallocateMode.TheVariants as Mode
 use Rattle.qcow2_image.specs.Preallocation.{first_zeros}
 use Rattle.qcow2_image.proofs.Call.Called.{works_none}
@@ -39,9 +39,9 @@ up_rising cs a b some le = elim (cases_lt (rounded_up cs b) (rounded_up cs a)) [
 pub up_to_end : (cs a b : ℕ) → 0 < cs → a ≤ b → a ≤ rounded_up cs b
 up_to_end cs a b some le = let least = up_least cs b some in omega (arith, least, le)
 
-module _ {S F : Type 0} (view : S → StorageView) (backing : F → BackingView) (out : List (Option Prepared)) (old : Qcow2 S F) (sound : ImageInvariant view backing (pending_in view backing old out) old out) (size : ℕ) (mode : PreallocateMode) (larger : size_of old < size) where
+module _ {S F : Type 0} (view : S → StorageView) (backing : F → BackingView) (out : Mappings) (old : Qcow2 S F) (sound : ImageInvariant view backing (pending_in view backing old out) old out) (size : ℕ) (mode : PreallocateMode) (larger : size_of old < size) where
   abbrev d : Disk
-  d = disk_of view backing old
+  d = disk_of view backing out.place old
 
   abbrev end : ℕ
   end = rounded_up (cluster_size old.file.header.fields) size
@@ -55,7 +55,7 @@ module _ {S F : Type 0} (view : S → StorageView) (backing : F → BackingView)
   -- of no mode
   pub grown_none : mode ≡ Mode.None → FillsGrown view backing size mode old old out
   grown_none none = record {
-    works = none_of _ _ (all_given_by_growing view backing old size mode) (works_none (abstract_of view backing old out) sound);
+    works = none_of _ _ (all_given_by_growing view backing out.place old size mode) (works_none (abstract_of view backing old out) sound);
     sound = sound;
     shows = ap (λ (e : Disk). with_disk (guest_of (abstract_of view backing old out)) e) (subst (λ (x : PreallocateMode). d ≡ filled_to (cluster_size old.file.header.fields) d size x) (sym none) refl);
     header = refl;
@@ -65,20 +65,20 @@ module _ {S F : Type 0} (view : S → StorageView) (backing : F → BackingView)
   }
 
   module _ (hides : shows_old mode ≡ false) where
-    given_bytes_are : all_given_by_growing view backing old size mode ≡ given_shown (zeroed_between d d.size end) d.size end ∷ []
+    given_bytes_are : all_given_by_growing view backing out.place old size mode ≡ given_shown (zeroed_between d d.size end) d.size end ∷ []
     given_bytes_are = cond-false _ _ _ (ap (λ b. b || shows_old mode) (lt-leb size d.size more) ∙ hides)
 
-    given_zeros : (o : ℕ) (w : Value) → IsGiven (given_by_zeros (size_of old) end ∷ []) o w → IsGiven (all_given_by_growing view backing old size mode) o w
+    given_zeros : (o : ℕ) (w : Value) → IsGiven (given_by_zeros (size_of old) end ∷ []) o w → IsGiven (all_given_by_growing view backing out.place old size mode) o w
     given_zeros o w given =
         subst (λ (gs : List GivenBytes). IsGiven gs o w) (sym given_bytes_are) (zeros_shown d d.size end o w (subst (λ n. IsGiven (given_by_zeros n end ∷ []) o w) size_is given))
 
-    zeros_touched : TouchesLess (cluster_size old.file.header.fields) (given_by_zeros (size_of old) end ∷ []) (all_given_by_growing view backing old size mode)
+    zeros_touched : TouchesLess (cluster_size old.file.header.fields) (given_by_zeros (size_of old) end ∷ []) (all_given_by_growing view backing out.place old size mode)
     zeros_touched = subst (TouchesLess (cluster_size old.file.header.fields) (given_by_zeros (size_of old) end ∷ [])) (sym given_bytes_are) (touches_part (cluster_size old.file.header.fields) _ _ _ _ (let same = size_is in omega (arith, same)) (let same = size_is in omega (arith, same)))
 
     module _ (new : Qcow2 S F) where
       pub grown_all : (first : ℕ) → first ≡ first_zeros (cluster_size old.file.header.fields) (size_of old) size mode → FillsPart view backing first (size_of old) end old new out → FillsGrown view backing size mode old new out
       grown_all first begins part = record {
-        works = works_less (abstract_of view backing old out) (abstract_of view backing new out) (given_by_zeros (size_of old) end ∷ []) (all_given_by_growing view backing old size mode) [] (λ o w given. inr (given_zeros o w given)) zeros_touched part.works;
+        works = works_less (abstract_of view backing old out) (abstract_of view backing new out) (given_by_zeros (size_of old) end ∷ []) (all_given_by_growing view backing out.place old size mode) [] (λ o w given. inr (given_zeros o w given)) zeros_touched part.works;
         sound = part.sound;
         shows = part.shows ∙ ap (λ (e : Disk). with_disk (guest_of (abstract_of view backing old out)) e) (ap (λ n. zeroed_between d n end) size_is ∙ sym (cond-false (shows_old mode) d (zeroed_between d d.size end) hides));
         header = part.header;
@@ -92,7 +92,7 @@ module _ {S F : Type 0} (view : S → StorageView) (backing : F → BackingView)
 
       in_part : FillsSome view backing (size_of old) end old new out → FillsGrownInPart view backing size mode old new out
       in_part part = record {
-        works = works_less (abstract_of view backing old out) (abstract_of view backing new out) (given_by_zeros (size_of old) end ∷ []) (all_given_by_growing view backing old size mode) [] (λ o w given. inr (given_zeros o w given)) zeros_touched part.works;
+        works = works_less (abstract_of view backing old out) (abstract_of view backing new out) (given_by_zeros (size_of old) end ∷ []) (all_given_by_growing view backing out.place old size mode) [] (λ o w given. inr (given_zeros o w given)) zeros_touched part.works;
         sound = part.sound;
         now = part.now;
         may = record {
@@ -103,11 +103,11 @@ module _ {S F : Type 0} (view : S → StorageView) (backing : F → BackingView)
         shows = part.shows;
       }
 
-      broken : (e : ImageError) → InterruptedGiving view backing (given_by_zeros (size_of old) end ∷ []) old new out e → InterruptedGiving view backing (all_given_by_growing view backing old size mode) old new out e
+      broken : (e : ImageError) → InterruptedGiving view backing (given_by_zeros (size_of old) end ∷ []) old new out e → InterruptedGiving view backing (all_given_by_growing view backing out.place old size mode) old new out e
       broken e interrupted = record {
         fault = interrupted.fault;
         recorded = interrupted.recorded;
-        works = works_less (abstract_of view backing old out) (abstract_of view backing (record new { is_failed = true }) out) (given_by_zeros (size_of old) end ∷ []) (all_given_by_growing view backing old size mode) [] (λ o w given. inr (given_zeros o w given)) zeros_touched interrupted.works;
+        works = works_less (abstract_of view backing old out) (abstract_of view backing (record new { is_failed = true }) out) (given_by_zeros (size_of old) end ∷ []) (all_given_by_growing view backing out.place old size mode) [] (λ o w given. inr (given_zeros o w given)) zeros_touched interrupted.works;
       }
 
       pub grown_refused : (e : ImageError) → RefusedFill view backing (size_of old) end old new out e
@@ -115,7 +115,7 @@ module _ {S F : Type 0} (view : S → StorageView) (backing : F → BackingView)
       grown_refused e refused = record {
         left = ⊎_elim (λ (part : FillsSome view backing (size_of old) end old new out). inl (in_part part)) (λ (interrupted : InterruptedGiving view backing (given_by_zeros (size_of old) end ∷ []) old new out e). inr (broken e interrupted)) refused.left;
         taken = λ is. (hides, subst (λ n. IsUnderMappingIn old.file.header.fields n end out) size_is (refused.taken is));
-        limit = λ is. limited_less (given_by_zeros (size_of old) end ∷ []) (all_given_by_growing view backing old size mode) given_zeros zeros_touched (refused.limit is);
+        limit = λ is. limited_less (given_by_zeros (size_of old) end ∷ []) (all_given_by_growing view backing out.place old size mode) given_zeros zeros_touched (refused.limit is);
       }
 
       pub grown_or_refused : (first from : ℕ) → first ≡ first_zeros (cluster_size old.file.header.fields) from size mode → from ≡ size_of old → (r : Result (Unit {0}) ImageError) → FillsOrRefuses view backing first from end old new out r → FillsGrownOrRefuses view backing size mode old new out r

@@ -1,6 +1,6 @@
 -- A growth is refused, and clusters are freed after the refusal.
 use Rattle.std.proofs.Common.{◌≡◌, ◌<◌, ◌⊎◌, ◌∙◌, inl, inr, ℕ, true, List, [], sym, subst, Option, Result, Err}
-use Rattle.qcow2_image.proofs.Common.{MayFailPreparing, HeaderView, BackingView, StorageView, PreallocateMode, GivenBytes, works_less, works_then, IsFault, ImageError, RefusedCall, Qcow2, Prepared, ImageInvariant, abstract_of, pending_in, FillsGrownInPart, InterruptedGiving, all_given_by_growing, FreesRefused, IsFaultOrLimit, MayFailToGrow, TablePrepared}
+use Rattle.qcow2_image.proofs.Common.{MayFailPreparing, HeaderView, BackingView, StorageView, PreallocateMode, GivenBytes, works_less, works_then, IsFault, ImageError, RefusedCall, Qcow2, Prepared, ImageInvariant, abstract_of, pending_in, FillsGrownInPart, InterruptedGiving, all_given_by_growing, FreesRefused, IsFaultOrLimit, MayFailToGrow, TablePrepared, Mappings}
 use Rattle.qcow2_image.proofs.Call.FailingErrors.{freeing_met}
 use Rattle.qcow2_image.proofs.Prepare.PinnedL2Tables.{freed_untaken}
 
@@ -17,9 +17,9 @@ pub taken_told : (e e' : ImageError) → (e' ≡ e) ⊎ IsFaultOrLimit e' → e'
 taken_told e e' (inl same) taken = sym same ∙ taken
 taken_told e e' (inr tables) taken = absurd (freed_untaken e' tables taken)
 
-module _ {S F : Type 0} (view : S → StorageView) (backing : F → BackingView) (out : List (Option Prepared)) (old mid new : Qcow2 S F) (size : ℕ) (mode : PreallocateMode) (e e' : ImageError) where
+module _ {S F : Type 0} (view : S → StorageView) (backing : F → BackingView) (out : Mappings) (old mid new : Qcow2 S F) (size : ℕ) (mode : PreallocateMode) (e e' : ImageError) where
   abbrev given : List GivenBytes
-  given = all_given_by_growing view backing old size mode
+  given = all_given_by_growing view backing out.place old size mode
 
   abbrev Left : Qcow2 S F → ImageError → Type 0
   Left image refusal = FillsGrownInPart view backing size mode old image out ⊎ InterruptedGiving view backing given old image out refusal

@@ -1,15 +1,17 @@
 -- The first bytes of a range are filled: a mapping is prepared, zeros are written into it, and it is committed.
 use Rattle.std.proofs.Math.Nat.{mul-le-mul_right}
-use Rattle.qcow2_image.proofs.Common.{IsNone, slice_get, slice_set, cases_lt, length-replicate, div-add-mod', div-mul-add, mod_below, pow_pos, BackingView, overwritten, StorageView, EachMomentSince, IsLeftBy, entry_count, Bytes, HeaderFields, cover, cluster_size, Setting, guest_of, AreDataAt, IsDataAt, EffectOnSound, with_slot, given_by_commit, is_copied_data, works_then, ImageError, ImageStorage, contents_in, known_in, view_in, storage_of, Qcow2, Prepared, AreCopied, EntersAll, IsEntered, IsReadied, IsWriteOutcome, PutsPart, RefusedCall, StaysBeside, WritesBytes, Discards, ReleasesOneMapping, InPlace, ImageInvariant, IsPending, IsReadyWith, cluster_of, abstract_of, disk_of, image_abstraction, meaning, pending_in, ReachingStays, KeepsL1Place, MovesTables, ChangesFree, FilledCovers, CommitsWhole, FillsPart, FillsSome, InterruptedGiving, given_by_zeros, file_sizes, IsUnderMapping, l1_index_of, IsAnswered}
+use Rattle.qcow2_image.proofs.Common.{IsNone, slice_get, slice_set, cases_lt, length-replicate, div-add-mod', div-mul-add, mod_below, pow_pos, BackingView, overwritten, StorageView, EachMomentSince, IsLeftBy, entry_count, Bytes, HeaderFields, cover, cluster_size, Setting, guest_of, AreDataAt, IsDataAt, EffectOnSound, with_slot, given_by_commit, is_copied_data, works_then, ImageError, ImageStorage, contents_in, known_in, view_in, storage_of, Qcow2, Prepared, AreCopied, EntersAll, IsEntered, IsReadied, IsWriteOutcome, PutsPart, RefusedCall, StaysBeside, WritesBytes, Discards, ReleasesOneMapping, InPlace, ImageInvariant, IsPending, IsReadyWith, cluster_of, abstract_of, disk_of, image_abstraction, meaning, pending_in, ReachingStays, KeepsL1Place, MovesTables, ChangesFree, FilledCovers, CommitsWhole, FillsPart, FillsSome, InterruptedGiving, given_by_zeros, file_sizes, IsUnderMapping, l1_index_of, IsAnswered, Mappings, abstraction_at, set_slot}
 use Rattle.std.proofs.Common.{◌≡◌, ◌⊎◌, ◌+◌, ◌-◌, ◌*◌, ◌/◌, ◌%◌, ◌^◌, ◌<◌, ◌≤◌, ◌∷◌, ⊎_elim, inl, inr, ℕ, min, true, false, Bool, List, [], length, refl, sym, ap, ◌∙◌, subst, arith, IsSome, replicate, Option, Some, None, Result, Ok, Err, pow_mono}
 use Rattle.qcow2_alloc.specs.declared.error.ImageError.TheVariants as I
 use Rattle.qcow2_alloc.specs.ImageError.{IsFault as FaultOfTables}
 use Rattle.qcow2_image.specs.Preallocation.{Touches}
-use Rattle.qcow2_image.proofs.Lemmas.{under_after, data_moved, get_set_same, set_set, free_places, boundary, covers_own, index_moved, place_same, reaching_stays, given_broken, filled_shows, filled_sound, filled_works, gone_same, gone_works, none_of, never_two, same_row, may_none, zeros_of, never_private}
+use Rattle.qcow2_image.proofs.Lemmas.{under_after, data_moved, get_set_same, set_set, set_slot_set, free_places, data_inside, boundary, covers_own, index_moved, place_same, reaching_stays, given_broken, filled_shows, filled_sound, filled_works, gone_same, gone_works, none_of, never_two, same_row, may_none, zeros_of, never_private}
 use Rattle.qcow2_image.proofs.Commit.CommitCalls.{all_shown, commit_existing}
 use Rattle.qcow2_image.proofs.Commit.Copied.{stands_entered, stands_released}
 use Rattle.qcow2_image.proofs.Write.Hosted.{hosts_behind_header}
 use Rattle.qcow2_image.proofs.Write.PutParts.{puts_covers, puts_written}
+use Rattle.qcow2_image.proofs.Images.Places.{put_first}
+use Rattle.qcow2_image.specs.declared.mapping.Place.{Place}
 
 -- ---- numbers
 -- a mapping isn't longer than was asked for, where that ends with a cluster or is a cluster at least
@@ -64,8 +66,8 @@ touched_mapping cs first guest len many g some is enough low high =
 
 module _ {S F : Type 0} (view : S → StorageView) (backing : F → BackingView) where
   -- the guest clusters of a mapping whose clusters are all in place are copied data
-  copied_as : (image : Qcow2 S F) (p q : Prepared) → q.guest ≡ p.guest → q.length ≡ p.length → IsEntered p q → (t : ℕ) → IsPending image.file.header.fields (known_in view image.file) (contents_in view image.file) q t → AreCopied view p.guest (p.guest + p.length) image
-  copied_as image p q same long entered t pending g low high =
+  copied_as : (file : Place) (image : Qcow2 S F) (p q : Prepared) → q.guest ≡ p.guest → q.length ≡ p.length → IsEntered p q → (t : ℕ) → IsPending image.file.header.fields file (known_in view image.file) (contents_in view image.file) q t → AreCopied view p.guest (p.guest + p.length) image
+  copied_as file image p q same long entered t pending g low high =
       let h = image.file.header.fields in
       let many = entered.many in
       let enough = pending.enough in
@@ -75,10 +77,10 @@ module _ {S F : Type 0} (view : S → StorageView) (backing : F → BackingView)
       let near = at.1 in
       ap is_copied_data (ap (cover h (known_in view image.file)) (sym back) ∙ pending.each (g - cluster_of h q) InPlace (entered.in_place (g - cluster_of h q) (omega (arith, near, many))))
 
-  copied_with : (image : Qcow2 S F) (p q : Prepared) → q.guest ≡ p.guest → q.length ≡ p.length → IsEntered p q → (x : Option ℕ) → q.table ≡ x → IsSome x → IsReadyWith image.file.header.fields (known_in view image.file) (contents_in view image.file) q x
+  copied_with : (file : Place) (image : Qcow2 S F) (p q : Prepared) → q.guest ≡ p.guest → q.length ≡ p.length → IsEntered p q → (x : Option ℕ) → q.table ≡ x → IsSome x → IsReadyWith image.file.header.fields file (known_in view image.file) (contents_in view image.file) q x
       → AreCopied view p.guest (p.guest + p.length) image
-  copied_with image p q same long entered None is some ready = absurd (let e : false ≡ true = some in cc)
-  copied_with image p q same long entered (Some t) is some ready = copied_as image p q same long entered t ready
+  copied_with file image p q same long entered None is some ready = absurd (let e : false ≡ true = some in cc)
+  copied_with file image p q same long entered (Some t) is some ready = copied_as file image p q same long entered t ready
 
   -- a step that leaves what is known and the header leaves covers
   copied_still : (from to : ℕ) (a b : Qcow2 S F) → b.file.header ≡ a.file.header → known_in view b.file ≡ known_in view a.file → AreCopied view from to a → AreCopied view from to b
@@ -92,8 +94,8 @@ module _ {S F : Type 0} (view : S → StorageView) (backing : F → BackingView)
   beside_still from to a b c header known beside g outside = beside g outside ∙ sym (ap (λ (h : HeaderFields). cover h (known_in view c.file) g) (ap (λ x. x.fields) header) ∙ ap (λ k. cover b.file.header.fields k g) known)
 
   -- ---- a commit of which nothing is refused
-  module _ (old : Qcow2 S F) (p : Prepared) (new : Qcow2 S F) (out : List (Option Prepared)) (k : ℕ) (placed : slice_get out k ≡ Some (Some p)) (sound : ImageInvariant view backing (pending_in view backing old out) old out) where
-    pub commits_existing : p.table ≡ None → Discards view backing old new p → ReleasesOneMapping view old new → CommitsWhole view backing old new out k p (slice_set out k None)
+  module _ (old : Qcow2 S F) (p : Prepared) (new : Qcow2 S F) (out : Mappings) (k : ℕ) (placed : slice_get out.slots k ≡ Some (Some p)) (sound : ImageInvariant view backing (pending_in view backing old out) old out) where
+    pub commits_existing : p.table ≡ None → Discards view backing old new p → ReleasesOneMapping view old new → CommitsWhole view backing old new out k p (set_slot out k None)
     commits_existing none discards image_step =
         let does = commit_existing view backing old p none new sound.works discards out k placed in
         let answer = does.answer sound in
@@ -108,34 +110,34 @@ module _ {S F : Type 0} (view : S → StorageView) (backing : F → BackingView)
           allocator = ap (λ (image : Qcow2 S F). image.allocator) image_step.rest;
         }
 
-    pub commits_entered : (entered : Qcow2 S F) (q : Prepared) (changed : Bool) → IsSome p.table → entered.allocator ≡ old.allocator → EntersAll view backing old entered p q changed → IsEntered p q → Discards view backing entered new q → ReleasesOneMapping view entered new → CommitsWhole view backing old new out k p (slice_set out k None)
+    pub commits_entered : (entered : Qcow2 S F) (q : Prepared) (changed : Bool) → IsSome p.table → entered.allocator ≡ old.allocator → EntersAll view backing old entered p q changed → IsEntered p q → Discards view backing entered new q → ReleasesOneMapping view entered new → CommitsWhole view backing old new out k p (set_slot out k None)
     commits_entered entered q changed some same enters whole discards image_step =
         let all = (enters out k placed some sound).0 in
-        let left : List (Option Prepared) = slice_set out k (Some q) in
-        let gone = discards (slice_set out k (Some q)) k (get_set_same out k (Some q) (Some p) placed) in
+        let left : Mappings = set_slot out k (Some q) in
+        let gone = discards (set_slot out k (Some q)) k (get_set_same out.slots k (Some q) (Some p) placed) in
         let answer = gone.answer all.part.sound in
-        let end : slice_set (slice_set out k (Some q)) k None ≡ slice_set out k None = set_set out k (Some q) None in
+        let end : set_slot (set_slot out k (Some q)) k None ≡ set_slot out k None = set_slot_set out k (Some q) None in
         let v = abstract_of view backing old out in
-        let e = abstract_of view backing entered (slice_set out k (Some q)) in
-        let given_bytes = given_by_commit v.setting.cluster_size (guest_of v).disk (meaning view backing old p) ∷ [] in
+        let e = abstract_of view backing entered (set_slot out k (Some q)) in
+        let given_bytes = given_by_commit v.setting.cluster_size (guest_of v).disk (meaning view backing out.place old p) ∷ [] in
         record {
-          works = subst (λ (now : List (Option Prepared)). EffectOnSound v (abstract_of view backing new now) given_bytes []) end
-              (works_then v e (abstract_of view backing new (slice_set (slice_set out k (Some q)) k None)) given_bytes [] all.part.sound all.part.works
-              (none_of e (abstract_of view backing new (slice_set (slice_set out k (Some q)) k None)) given_bytes (gone.acts.works all.part.sound)));
-          sound = subst (λ (now : List (Option Prepared)). ImageInvariant view backing (pending_in view backing new now) new now) end answer.0;
-          shows = all_shown (guest_of v) (guest_of e) (guest_of (abstract_of view backing new (slice_set out k None))) k (meaning view backing old p) (meaning view backing entered q) all.part.shows all.visible
-              (subst (λ (now : List (Option Prepared)). guest_of (abstract_of view backing new now) ≡ with_slot (guest_of e) k None) end answer.1);
+          works = subst (λ (now : Mappings). EffectOnSound v (abstract_of view backing new now) given_bytes []) end
+              (works_then v e (abstract_of view backing new (set_slot (set_slot out k (Some q)) k None)) given_bytes [] all.part.sound all.part.works
+              (none_of e (abstract_of view backing new (set_slot (set_slot out k (Some q)) k None)) given_bytes (gone.acts.works all.part.sound)));
+          sound = subst (λ (now : Mappings). ImageInvariant view backing (pending_in view backing new now) new now) end answer.0;
+          shows = all_shown (guest_of v) (guest_of e) (guest_of (abstract_of view backing new (set_slot out k None))) k (meaning view backing out.place old p) (meaning view backing out.place entered q) all.part.shows all.visible
+              (subst (λ (now : Mappings). guest_of (abstract_of view backing new now) ≡ with_slot (guest_of e) k None) end answer.1);
           beside = beside_still p.guest (p.guest + p.length) old entered new (ap (λ (image : Qcow2 S F). image.file.header) image_step.rest) image_step.known all.part.beside;
           copied = λ _. copied_still p.guest (p.guest + p.length) entered new (ap (λ (image : Qcow2 S F). image.file.header) image_step.rest) image_step.known
-              (copied_with entered p q all.part.shows.from all.part.shows.length whole q.table refl (subst (λ (x : Option ℕ). IsSome x) (sym whole.table) some) (all.part.sound.ready k q (get_set_same out k (Some q) (Some p) placed)).mapped);
-          placed = λ _. stands_released view p.guest p.offset p.length entered new image_step (stands_entered view entered p q some whole (all.part.sound.ready k q (get_set_same out k (Some q) (Some p) placed)).mapped);
+              (copied_with out.place entered p q all.part.shows.from all.part.shows.length whole q.table refl (subst (λ (x : Option ℕ). IsSome x) (sym whole.table) some) (all.part.sound.ready k q (get_set_same out.slots k (Some q) (Some p) placed)).mapped);
+          placed = λ _. stands_released view p.guest p.offset p.length entered new image_step (stands_entered view out.place entered p q some whole (all.part.sound.ready k q (get_set_same out.slots k (Some q) (Some p) placed)).mapped);
           still = λ none. absurd (let e : false ≡ true = subst (λ (x : Option ℕ). IsSome x) none some in cc);
           allocator = ap (λ (image : Qcow2 S F). image.allocator) image_step.rest ∙ same;
         }
 
   -- ---- a piece
-  module _ (out : List (Option Prepared)) (old mid : Qcow2 S F) (p : Prepared) (from n : ℕ) (sound : ImageInvariant view backing (pending_in view backing old out) old out) (ready : IsReadied view backing old mid (None ∷ out) 0 from n true p)
-      (answered : IsAnswered old.file.header.fields (known_in view old.file) from n mid.file.header.fields (known_in view mid.file) p (meaning view backing mid p)) (fits : p.length ≤ n) where
+  module _ (out : Mappings) (old mid : Qcow2 S F) (p : Prepared) (from n : ℕ) (sound : ImageInvariant view backing (pending_in view backing old out) old out) (ready : IsReadied view backing old mid (put_first None out) 0 from n true p)
+      (answered : IsAnswered old.file.header.fields (known_in view old.file) from n mid.file.header.fields (known_in view mid.file) p (meaning view backing out.place mid p)) (fits : p.length ≤ n) where
     long : length (zeros_of p.length) ≡ p.length
     long = length-replicate p.length 0
 
@@ -143,7 +145,7 @@ module _ {S F : Type 0} (view : S → StorageView) (backing : F → BackingView)
     in_place : p.table ≡ None → AreDataAt mid.file.header.fields (known_in view mid.file) true (p.guest + 0) (p.offset + 0) (length (zeros_of p.length))
     in_place none i lt =
         let all = long in
-        let clusters = subst (IsReadyWith mid.file.header.fields (known_in view mid.file) (contents_in view mid.file) p) none (ready.sound.ready 0 p refl).mapped in
+        let clusters = subst (IsReadyWith mid.file.header.fields out.place (known_in view mid.file) (contents_in view mid.file) p) none (ready.sound.ready 0 p refl).mapped in
         let was = answered.in_place i (omega (arith, lt, all)) (never_private view backing mid p clusters (from + i)) in
         let from_is = ready.prepared.from in
         let at : from + i ≡ p.guest + 0 + i = omega (arith, from_is) in
@@ -156,17 +158,17 @@ module _ {S F : Type 0} (view : S → StorageView) (backing : F → BackingView)
     piece_behind : 0 < p.length → cluster_size mid.file.header.fields ≤ p.offset
     piece_behind some =
         let all = long in
-        let first = hosts_behind_header view backing mid (Some p ∷ out) ready.sound (length (zeros_of p.length)) 0 p 0 refl (omega (arith, all)) in_place 0 (omega (arith, all, some)) in
+        let first = hosts_behind_header view backing mid (put_first (Some p) out) ready.sound (length (zeros_of p.length)) 0 p 0 refl (omega (arith, all)) in_place 0 (omega (arith, all, some)) in
         omega (arith, first)
 
     -- zeros are written
     module _ (storage : ImageStorage S) (honest : (view (storage_of storage)).is_honest) (time : EachMomentSince (view_in view mid.file) (view (storage_of storage)) (IsLeftBy (view (storage_of storage)))) where
       pub zeros_put : (r : Result (Unit {0}) ImageError) → IsWriteOutcome r (view_in view mid.file).contents (overwritten (view_in view mid.file).contents p.offset (zeros_of p.length)) (view (storage_of storage)).contents
-          → PutsPart view backing mid (record mid { file = record mid.file { storage = storage } }) (Some p ∷ out) 0 p 0 (zeros_of p.length) r
+          → PutsPart view backing mid (record mid { file = record mid.file { storage = storage } }) (put_first (Some p) out) 0 p 0 (zeros_of p.length) r
       zeros_put r is =
           let all = long in
           let at : p.offset ≡ p.offset + 0 = omega arith in
-          puts_written view backing (Some p ∷ out) 0 p 0 (zeros_of p.length) refl mid ready.sound (omega (arith, all)) in_place storage honest time r
+          puts_written view backing (put_first (Some p) out) 0 p 0 (zeros_of p.length) refl mid ready.sound (omega (arith, all)) in_place storage honest time r
           (subst (λ k. IsWriteOutcome r (view_in view mid.file).contents (overwritten (view_in view mid.file).contents k (zeros_of p.length)) (view (storage_of storage)).contents) at is)
 
       -- the mapping of each guest cluster stays the same
@@ -175,14 +177,14 @@ module _ {S F : Type 0} (view : S → StorageView) (backing : F → BackingView)
       zeros_covers is =
           let all = long in
           let at : p.offset ≡ p.offset + 0 = omega arith in
-          puts_covers view backing (Some p ∷ out) 0 p 0 (zeros_of p.length) refl mid ready.sound (omega (arith, all)) in_place storage honest time
+          puts_covers view backing (put_first (Some p) out) 0 p 0 (zeros_of p.length) refl mid ready.sound (omega (arith, all)) in_place storage honest time
           (is ∙ ap (λ k. overwritten (view_in view mid.file).contents k (zeros_of p.length)) at)
 
     -- an existing mapping lies in copied data
     existing_copied : 0 < p.length → p.table ≡ None → (g : ℕ) → from < g * cluster_size old.file.header.fields + cluster_size old.file.header.fields → g * cluster_size old.file.header.fields < from + p.length → is_copied_data (cover mid.file.header.fields (known_in view mid.file) g) ≡ true
     existing_copied some none g low high =
         let h = old.file.header.fields in
-        let clusters = subst (IsReadyWith mid.file.header.fields (known_in view mid.file) (contents_in view mid.file) p) none (ready.sound.ready 0 p refl).mapped in
+        let clusters = subst (IsReadyWith mid.file.header.fields out.place (known_in view mid.file) (contents_in view mid.file) p) none (ready.sound.ready 0 p refl).mapped in
         let hit = byte_in (cluster_size h) (pow_pos h.cluster_bits) from p.length g low high some in
         let was = answered.in_place hit.index hit.within (never_private view backing mid p clusters (from + hit.index)) in
         ap is_copied_data (sym (ready.covers g) ∙ ap (cover h (known_in view old.file)) (sym hit.here) ∙ was.1)
@@ -206,15 +208,15 @@ module _ {S F : Type 0} (view : S → StorageView) (backing : F → BackingView)
             never_two view backing mid p out ready.sound x is offset (under_after h h' offset out ready.header under) (index_moved h h' offset ready.header ∙ row ∙ sym (index_moved h h' from ready.header) ∙ ap (λ n. l1_index_of h' n) (sym from_is))
 
     -- they are there, and the mapping is committed
-    pub piece_filled : (mid2 new : Qcow2 S F) → PutsPart view backing mid mid2 (Some p ∷ out) 0 p 0 (zeros_of p.length) (Ok tt) → CommitsWhole view backing mid2 new (Some p ∷ out) 0 p (None ∷ out) → mid2.file.header ≡ mid.file.header → mid2.allocator ≡ mid.allocator → new.file.header ≡ mid2.file.header
+    pub piece_filled : (mid2 new : Qcow2 S F) → PutsPart view backing mid mid2 (put_first (Some p) out) 0 p 0 (zeros_of p.length) (Ok tt) → CommitsWhole view backing mid2 new (put_first (Some p) out) 0 p (put_first None out) → mid2.file.header ≡ mid.file.header → mid2.allocator ≡ mid.allocator → new.file.header ≡ mid2.file.header
         → ReachingStays (from + p.length) old.file.header.fields mid.file.header.fields → (first : ℕ) → FilledCovers (cluster_size old.file.header.fields) first from (from + p.length) old.file.header.fields (known_in view old.file) new.file.header.fields (known_in view new.file)
         → ChangesFree (cluster_size old.file.header.fields) first from (from + p.length) old.file.header.fields (known_in view old.file) out → FillsPart view backing first from (from + p.length) old new out
     piece_filled mid2 new put commits header2 same header3 long first covers free =
-        let cs = (abstract_of view backing mid2 (Some p ∷ out)).setting.cluster_size in
+        let cs = (abstract_of view backing mid2 (put_first (Some p) out)).setting.cluster_size in
         record {
-          works = filled_works (image_abstraction view backing) (free_places view backing) (λ _. refl) old mid p out (cluster_size old.file.header.fields) from n sound ready.sound ready.works ready.prepared ready.is fits mid2 put.sound put.works put.is new cs commits.sound commits.works commits.shows refl (pow_pos mid2.file.header.fields.cluster_bits);
-          sound = filled_sound (image_abstraction view backing) (free_places view backing) (λ _. refl) old mid p out (cluster_size old.file.header.fields) from n sound ready.sound ready.works ready.prepared ready.is fits mid2 put.sound put.works put.is new cs commits.sound commits.works commits.shows;
-          shows = filled_shows (image_abstraction view backing) (free_places view backing) (λ _. refl) old mid p out (cluster_size old.file.header.fields) from n sound ready.sound ready.works ready.prepared ready.is fits mid2 put.sound put.works put.is new cs commits.sound commits.works commits.shows;
+          works = filled_works (abstraction_at view backing out.place) (free_places view backing out.place) (data_inside view backing out.place) old mid p out.slots (cluster_size old.file.header.fields) from n sound ready.sound ready.works ready.prepared ready.is fits mid2 put.sound put.works put.is new cs commits.sound commits.works commits.shows refl (pow_pos mid2.file.header.fields.cluster_bits);
+          sound = filled_sound (abstraction_at view backing out.place) (free_places view backing out.place) (data_inside view backing out.place) old mid p out.slots (cluster_size old.file.header.fields) from n sound ready.sound ready.works ready.prepared ready.is fits mid2 put.sound put.works put.is new cs commits.sound commits.works commits.shows;
+          shows = filled_shows (abstraction_at view backing out.place) (free_places view backing out.place) (data_inside view backing out.place) old mid p out.slots (cluster_size old.file.header.fields) from n sound ready.sound ready.works ready.prepared ready.is fits mid2 put.sound put.works put.is new cs commits.sound commits.works commits.shows;
           header = subst (λ (h : HeaderFields). MovesTables old.file.header.fields h) (ap (λ x. x.fields) (sym (header3 ∙ header2))) ready.header;
           l1_table = λ within. place_same old.file.header.fields mid.file.header new.file.header (header3 ∙ header2) (long within);
           covers = covers;
@@ -222,22 +224,22 @@ module _ {S F : Type 0} (view : S → StorageView) (backing : F → BackingView)
         }
 
     -- the write was refused, and the mapping is let go; then clusters are freed
-    module _ (mid2 gone new : Qcow2 S F) (to : ℕ) (e e' : ImageError) (high : from + p.length ≤ to) (put : PutsPart view backing mid mid2 (Some p ∷ out) 0 p 0 (zeros_of p.length) (Err e)) (discards : Discards view backing mid2 gone p)
+    module _ (mid2 gone new : Qcow2 S F) (to : ℕ) (e e' : ImageError) (high : from + p.length ≤ to) (put : PutsPart view backing mid mid2 (put_first (Some p) out) 0 p 0 (zeros_of p.length) (Err e)) (discards : Discards view backing mid2 gone p)
         (fault : FaultOfTables e → (e' ≡ e) × (new ≡ gone)) where
-      gone_sound : ImageInvariant view backing (pending_in view backing gone (None ∷ out)) gone (None ∷ out)
-      gone_sound = ((discards (Some p ∷ out) 0 refl).answer put.sound).0
+      gone_sound : ImageInvariant view backing (pending_in view backing gone (put_first None out)) gone (put_first None out)
+      gone_sound = ((discards (put_first (Some p) out) 0 refl).answer put.sound).0
 
       pub sound_now : ImageInvariant view backing (pending_in view backing gone out) gone out
-      sound_now = (free_places view backing).left gone [] out gone_sound
+      sound_now = (free_places view backing out.place).left gone [] out.slots gone_sound
 
       works_now : EffectOnSound (abstract_of view backing old out) (abstract_of view backing gone out) (given_by_zeros from (from + p.length) ∷ []) []
-      works_now = gone_works (image_abstraction view backing) (free_places view backing) (λ _. refl) old mid p out (cluster_size old.file.header.fields) from n sound ready.sound ready.works ready.prepared ready.is fits mid2 put.sound put.works gone
-          ((discards (Some p ∷ out) 0 refl).acts.works put.sound) gone_sound
+      works_now = gone_works (abstraction_at view backing out.place) (free_places view backing out.place) (data_inside view backing out.place) old mid p out.slots (cluster_size old.file.header.fields) from n sound ready.sound ready.works ready.prepared ready.is fits mid2 put.sound put.works gone
+          ((discards (put_first (Some p) out) 0 refl).acts.works put.sound) gone_sound
 
       pub piece_gone : (frees : ImageInvariant view backing (pending_in view backing gone out) gone out → RefusedCall view backing gone new out e') → FillsSome view backing from (from + p.length) old new out ⊎ InterruptedGiving view backing (given_by_zeros from (from + p.length) ∷ []) old new out e'
       piece_gone frees = ⊎_elim
-          (λ (same : guest_of (abstract_of view backing mid2 (Some p ∷ out)) ≡ guest_of (abstract_of view backing mid (Some p ∷ out))).
-          let still = gone_same (image_abstraction view backing) (free_places view backing) (λ _. refl) old mid p out (cluster_size old.file.header.fields) from n sound ready.sound ready.works ready.prepared ready.is fits mid2 put.sound put.works gone same ((discards (Some p ∷ out) 0 refl).answer put.sound).1 in
+          (λ (same : guest_of (abstract_of view backing mid2 (put_first (Some p) out)) ≡ guest_of (abstract_of view backing mid (put_first (Some p) out))).
+          let still = gone_same (abstraction_at view backing out.place) (free_places view backing out.place) (data_inside view backing out.place) old mid p out.slots (cluster_size old.file.header.fields) from n sound ready.sound ready.works ready.prepared ready.is fits mid2 put.sound put.works gone same ((discards (put_first (Some p) out) 0 refl).answer put.sound).1 in
           some_then still (frees sound_now))
           (λ (failed : e ≡ I.Storage).
           let is = fault (inl failed) in
@@ -249,8 +251,8 @@ module _ {S F : Type 0} (view : S → StorageView) (backing : F → BackingView)
           some_then still (inl stays) = inl (record {
             works = works_then (abstract_of view backing old out) (abstract_of view backing gone out) (abstract_of view backing new out) (given_by_zeros from (from + p.length) ∷ []) [] sound_now works_now (none_of _ _ (given_by_zeros from (from + p.length) ∷ []) stays.works);
             sound = stays.sound;
-            now = disk_of view backing old;
-            may = may_none from (from + p.length) (disk_of view backing old);
+            now = disk_of view backing out.place old;
+            may = may_none from (from + p.length) (disk_of view backing out.place old);
             shows = stays.same ∙ still;
           })
           some_then still (inr interrupted) = inr (record {
@@ -260,8 +262,8 @@ module _ {S F : Type 0} (view : S → StorageView) (backing : F → BackingView)
           })
 
   -- ---- as a call makes it
-  module _ (out : List (Option Prepared)) (old mid : Qcow2 S F) (p : Prepared) (from to most n count : ℕ) (sound : ImageInvariant view backing (pending_in view backing old out) old out) (ready : IsReadied view backing old mid (None ∷ out) 0 from n true p)
-      (answered : IsAnswered old.file.header.fields (known_in view old.file) from n mid.file.header.fields (known_in view mid.file) p (meaning view backing mid p)) (lt : from < to) (whole : to % cluster_size old.file.header.fields ≡ 0)
+  module _ (out : Mappings) (old mid : Qcow2 S F) (p : Prepared) (from to most n count : ℕ) (sound : ImageInvariant view backing (pending_in view backing old out) old out) (ready : IsReadied view backing old mid (put_first None out) 0 from n true p)
+      (answered : IsAnswered old.file.header.fields (known_in view old.file) from n mid.file.header.fields (known_in view mid.file) p (meaning view backing out.place mid p)) (lt : from < to) (whole : to % cluster_size old.file.header.fields ≡ 0)
       (few : 2 ^ 21 ≤ most) (asked : n ≡ min most (to - from)) (counted : count ≡ min p.length most) where
     large : cluster_size old.file.header.fields ≤ most
     large = let bits : 2 ^ old.file.header.fields.cluster_bits ≤ 2 ^ 21 = pow_mono sound.file.caches.kept.kept.crash_invariant.top.header_reads.well_formed.in_range.cluster_bits.1 in omega (arith, bits, few)
@@ -278,10 +280,10 @@ module _ {S F : Type 0} (view : S → StorageView) (backing : F → BackingView)
     pub all_next : (next : ℕ) → next ≡ min to (min (from + p.length) (2 ^ 64 - 1)) → to < 2 ^ 64 → next ≡ from + p.length
     all_next next is high = let within = all_within in omega (arith, within, is, high)
 
-    pub all_put : (mid2 : Qcow2 S F) (r : Result (Unit {0}) ImageError) → WritesBytes view mid mid2 p.offset (replicate count 0) r → PutsPart view backing mid mid2 (Some p ∷ out) 0 p 0 (zeros_of p.length) r
+    pub all_put : (mid2 : Qcow2 S F) (r : Result (Unit {0}) ImageError) → WritesBytes view mid mid2 p.offset (replicate count 0) r → PutsPart view backing mid mid2 (put_first (Some p) out) 0 p 0 (zeros_of p.length) r
     all_put mid2 r w =
         let contents = (view_in view mid.file).contents in
-        subst (λ (image : Qcow2 S F). PutsPart view backing mid image (Some p ∷ out) 0 p 0 (zeros_of p.length) r) (sym w.rest)
+        subst (λ (image : Qcow2 S F). PutsPart view backing mid image (put_first (Some p) out) 0 p 0 (zeros_of p.length) r) (sym w.rest)
         (zeros_put out old mid p from n sound ready answered all_fits mid2.file.storage (w.honest ready.sound.file.honest) (w.time ready.sound.file.honest) r
         (subst (λ k. IsWriteOutcome r contents (overwritten contents p.offset (zeros_of k)) (view_in view mid2.file).contents) all_counted (w.written ready.sound.file.honest)))
 
@@ -296,7 +298,7 @@ module _ {S F : Type 0} (view : S → StorageView) (backing : F → BackingView)
         (w.written ready.sound.file.honest ∙ ap (λ k. overwritten ((view_in view mid.file).contents) p.offset (zeros_of k)) all_counted))
 
     -- the mappings of guest clusters afterwards
-    all_covers : 0 < p.length → (mid2 new : Qcow2 S F) → WritesBytes view mid mid2 p.offset (replicate count 0) (Ok tt) → CommitsWhole view backing mid2 new (Some p ∷ out) 0 p (None ∷ out) → (first : ℕ) → from + p.length ≤ first
+    all_covers : 0 < p.length → (mid2 new : Qcow2 S F) → WritesBytes view mid mid2 p.offset (replicate count 0) (Ok tt) → CommitsWhole view backing mid2 new (put_first (Some p) out) 0 p (put_first None out) → (first : ℕ) → from + p.length ≤ first
         → FilledCovers (cluster_size old.file.header.fields) first from (from + p.length) old.file.header.fields (known_in view old.file) new.file.header.fields (known_in view new.file)
     all_covers some mid2 new w commits first high =
         let put = all_still mid2 w in
@@ -305,7 +307,7 @@ module _ {S F : Type 0} (view : S → StorageView) (backing : F → BackingView)
         let size2 : cluster_size mid2.file.header.fields ≡ cluster_size old.file.header.fields = ap (λ (image : Qcow2 S F). cluster_size image.file.header.fields) w.rest ∙ ap (λ (x : HeaderFields). cluster_size x) ready.header in
         own_covers p.table refl some mid2 new commits first high so_far put from_is size2
       where
-        own_covers : (t : Option ℕ) → p.table ≡ t → 0 < p.length → (mid2 new : Qcow2 S F) → CommitsWhole view backing mid2 new (Some p ∷ out) 0 p (None ∷ out) → (first : ℕ) → from + p.length ≤ first
+        own_covers : (t : Option ℕ) → p.table ≡ t → 0 < p.length → (mid2 new : Qcow2 S F) → CommitsWhole view backing mid2 new (put_first (Some p) out) 0 p (put_first None out) → (first : ℕ) → from + p.length ≤ first
             → ((g : ℕ) → cover old.file.header.fields (known_in view old.file) g ≡ cover mid2.file.header.fields (known_in view mid2.file) g) → ((g : ℕ) → cover mid.file.header.fields (known_in view mid.file) g ≡ cover mid2.file.header.fields (known_in view mid2.file) g)
             → p.guest ≡ from → cluster_size mid2.file.header.fields ≡ cluster_size old.file.header.fields
             → FilledCovers (cluster_size old.file.header.fields) first from (from + p.length) old.file.header.fields (known_in view old.file) new.file.header.fields (known_in view new.file)
@@ -323,11 +325,11 @@ module _ {S F : Type 0} (view : S → StorageView) (backing : F → BackingView)
             (subst (λ s. p.guest < g * s + s) (sym size3) (subst (λ f. f < g * cluster_size old.file.header.fields + cluster_size old.file.header.fields) (sym from_is) low))
             (subst (λ s. g * s < p.guest + p.length) (sym size3) (subst (λ f. g * cluster_size old.file.header.fields < f + p.length) (sym from_is) up))) first high
 
-    pub all_filled : 0 < p.length → (mid2 new : Qcow2 S F) → WritesBytes view mid mid2 p.offset (replicate count 0) (Ok tt) → ((o : List (Option Prepared)) (k : ℕ) → slice_get o k ≡ Some (Some p) → ImageInvariant view backing (pending_in view backing mid2 o) mid2 o → CommitsWhole view backing mid2 new o k p (slice_set o k None))
+    pub all_filled : 0 < p.length → (mid2 new : Qcow2 S F) → WritesBytes view mid mid2 p.offset (replicate count 0) (Ok tt) → ((o : Mappings) (k : ℕ) → slice_get o.slots k ≡ Some (Some p) → ImageInvariant view backing (pending_in view backing mid2 o) mid2 o → CommitsWhole view backing mid2 new o k p (set_slot o k None))
         → new.file.header ≡ mid2.file.header → (l1_index_of old.file.header.fields from < entry_count old.l1_table → KeepsL1Place old.file.header.fields mid.file.header.fields) → FillsPart view backing to from (from + p.length) old new out
     all_filled some mid2 new w commits header stays =
         let put = all_put mid2 (Ok tt) w in
-        let done = commits (Some p ∷ out) 0 refl put.sound in
+        let done = commits (put_first (Some p) out) 0 refl put.sound in
         piece_filled out old mid p from n sound ready answered all_fits mid2 new put done (ap (λ (image : Qcow2 S F). image.file.header) w.rest) (ap (λ (image : Qcow2 S F). image.allocator) w.rest) header
         (reaching_stays old.file.header.fields mid.file.header.fields from (from + p.length) (entry_count old.l1_table) (omega (arith, some)) sound.l1_table.count stays) to (all_covers some mid2 new w done to all_within)
         (piece_untaken out old mid p from n sound ready answered all_fits some to all_within)

@@ -1,6 +1,6 @@
 -- Zeros are put into a mapping that is prepared in a slot of its own, and the mapping is committed.
 use Rattle.std.proofs.Common.{◌≡◌, ◌⊎◌, ◌+◌, ◌≤◌, ◌<◌, ◌∷◌, ⊎_elim, inl, inr, ℕ, suc, eqb, length, List, [], Option, Some, None, true, refl, sym, ap, ◌∙◌, subst, arith}
-use Rattle.qcow2_image.proofs.Common.{length-replicate, cond-false, ne_eqb, fun_ext, Value, Disk, disk, zeroed_between, PreparedMapping, IsPrepared, committed, given_by_commit, given_by_put, put_disk, put_mapping, GivenBytes, IsGiven, Abstraction, AbstractImage, Guest, HasFreePlaces, abstract_image, guest_of, EffectOnSound, with_disk, with_slot, TouchesLess, shown_is, works_less, works_then, stops_none, given_by_zeros}
+use Rattle.qcow2_image.proofs.Common.{length-replicate, cond-false, ne_eqb, fun_ext, Value, Disk, disk, zeroed_between, PreparedMapping, IsPrepared, committed, given_by_commit, given_by_put, put_disk, put_mapping, GivenBytes, IsGiven, Abstraction, AbstractImage, Guest, HasFreePlaces, abstract_image, guest_of, EffectOnSound, with_disk, with_slot, TouchesLess, shown_is, works_less, works_then, stops_none, given_by_zeros, in_image}
 use Rattle.qcow2_image.proofs.Preallocate.Zeros.{commit_within, filled, put_within, zeros_of}
 use Rattle.qcow2_image.proofs.Images.UngivenCovers.{touches_part}
 use Rattle.qcow2_image.proofs.Images.WholeClusters.{commit_touches}
@@ -16,7 +16,7 @@ behind_first g = record { disk = g.disk; slots = λ k. g.slots (suc k) }
 pub behind_slot : (g : Guest) (m : Option PreparedMapping) → behind_first (with_slot g 0 m) ≡ behind_first g
 behind_slot g m = ap (λ (f : ℕ → Option PreparedMapping). record g { slots = f }) (fun_ext (λ k. cond-false (eqb (suc k) 0) m (g.slots (suc k)) (ne_eqb (suc k) 0 (λ e. absurd (omega arith)))))
 
-module _ {D P : Type 0} (spec : Abstraction D P) (has : HasFreePlaces spec) (in_image : (d : D) → spec.data_bytes d ≡ spec.known d) where
+module _ {D P : Type 0} (spec : Abstraction D P) (has : HasFreePlaces spec) (in_image : (d : D) (out : List (Option P)) → spec.is_sound d out → spec.data_bytes d ≡ spec.known d) where
   abbrev at_place : D → Option P → List (Option P) → AbstractImage
   at_place d p out = abstract_image spec d (p ∷ out)
 
@@ -60,7 +60,7 @@ module _ {D P : Type 0} (spec : Abstraction D P) (has : HasFreePlaces spec) (in_
     module _ (d2 : D) (sound2 : spec.is_sound d2 (Some p ∷ out)) (puts : EffectOnSound (at_place d1 (Some p) out) (at_place d2 (Some p) out) (given_by_put (guest_of (at_place d1 (Some p) out)).disk m 0 zeros ∷ []) []) where
       puts_given : (o : ℕ) (w : Value) → IsGiven (given_by_put (guest_of (at_place d1 (Some p) out)).disk m 0 zeros ∷ []) o w → (w ≡ (disk (spec.known d1) (spec.setting d1).backing).value o) ⊎ IsGiven given_bytes o w
       puts_given o w given =
-          ⊎_elim (λ (same : w ≡ disk0.value o). inl (same ∙ ap (λ (d : Disk). d.value o) (sym ready_disk ∙ shown_is (at_place d1 (Some p) out) (in_image d1)))) (λ (zero : IsGiven given_bytes o w). inr zero)
+          ⊎_elim (λ (same : w ≡ disk0.value o). inl (same ∙ ap (λ (d : Disk). d.value o) (sym ready_disk ∙ shown_is (at_place d1 (Some p) out) (in_image d1 (Some p ∷ out) sound1)))) (λ (zero : IsGiven given_bytes o w). inr zero)
           (put_within size disk0 m offset n prepared fits o w (subst (λ (d : Disk). IsGiven (given_by_put d m 0 zeros ∷ []) o w) ready_disk given))
 
       puts_touch : TouchesLess (spec.setting d1).cluster_size (given_by_put (guest_of (at_place d1 (Some p) out)).disk m 0 zeros ∷ []) given_bytes
@@ -106,7 +106,7 @@ module _ {D P : Type 0} (spec : Abstraction D P) (has : HasFreePlaces spec) (in_
 
         commits_given : (o : ℕ) (w : Value) → IsGiven (given_by_commit cs (guest_of (at_place d2 (Some p) out)).disk (spec.means d2 p) ∷ []) o w → (w ≡ (disk (spec.known d2) (spec.setting d2).backing).value o) ⊎ IsGiven given_bytes o w
         commits_given o w given =
-            ⊎_elim (λ (same : w ≡ disk2.value o). inl (same ∙ ap (λ (d : Disk). d.value o) (sym disk2_is ∙ shown_is (at_place d2 (Some p) out) (in_image d2)))) (λ (zero : IsGiven given_bytes o w). inr zero)
+            ⊎_elim (λ (same : w ≡ disk2.value o). inl (same ∙ ap (λ (d : Disk). d.value o) (sym disk2_is ∙ shown_is (at_place d2 (Some p) out) (in_image d2 (Some p ∷ out) sound2)))) (λ (zero : IsGiven given_bytes o w). inr zero)
             (commit_within size disk0 m offset n prepared fits cs o w
             (subst (λ (d : Disk). IsGiven (given_by_commit cs d mapping2 ∷ []) o w) disk2_is
             (subst (λ (x : PreparedMapping). IsGiven (given_by_commit cs (guest_of (at_place d2 (Some p) out)).disk x ∷ []) o w) means_is given)))

@@ -1,6 +1,6 @@
 -- Why copying, and allocating a first cluster, are refused: for a fault, a limit, or compressed data.
 use Rattle.std.proofs.Common.{◌≡◌, ◌⊎◌, ◌+◌, ◌-◌, ◌*◌, ◌/◌, ◌%◌, ◌^◌, ◌<◌, ◌≤◌, inl, inr, ℕ, Bool, true, List, Option, Some, None, Result, Ok, Err, refl, sym, ap, ◌∙◌, subst, arith, IfErr, IsErr, IsErrAnd}
-use Rattle.qcow2_image.proofs.Common.{cases_lt, div-add-mod', div-mul-add, mod-mul-add, mul-le, pow-add, pow_pos, BackingView, StorageView, Bytes, cover, cluster_size, named_for_tables, HeaderFields, L2Mapping, Data, Zero, Compressed, Uncovered, Kind, special, kind_at, IsCompressed, Pending, Hosting, IsHostedAt, DriverState, StateInvariant, in_own, beside_tables, shares, IsFault, known_in, state_in, IsFaultOr, ImageError, handed_on, own_cluster, found_kind, ImageInvariant, MayFailAlone, MayFailMapped, MayFailReading, IsSpecial, IsFaultOrLimit, Qcow2, MappingKind, Prepared, MayFailOn, MayFailCopying}
+use Rattle.qcow2_image.proofs.Common.{cases_lt, div-add-mod', div-mul-add, mod-mul-add, mul-le, pow-add, pow_pos, BackingView, StorageView, Bytes, cover, cluster_size, named_for_tables, HeaderFields, L2Mapping, Data, Zero, Compressed, Uncovered, Kind, special, kind_at, IsCompressed, Pending, Hosting, IsHostedAt, DriverState, StateInvariant, in_own, beside_tables, shares, IsFault, known_in, state_in, IsFaultOr, ImageError, handed_on, own_cluster, found_kind, ImageInvariant, MayFailAlone, MayFailMapped, MayFailReading, IsSpecial, IsFaultOrLimit, Qcow2, MappingKind, Prepared, MayFailOn, MayFailCopying, Mappings}
 use Rattle.std.specs.Prelude.{SomeIff}
 use Rattle.qcow2_laws.specs.GuestLaws.{Kept as HostedKept, Held as HostedHeld}
 use Rattle.qcow2_alloc.specs.declared.error.ImageError.TheVariants as I
@@ -8,6 +8,7 @@ use Rattle.qcow2_image.specs.declared.mapping.MappingKind.TheVariants as M
 use Rattle.qcow2_image.proofs.Call.BehindHeader.{behind_first}
 use Rattle.qcow2_image.proofs.Map.Looked.{never_past}
 use Rattle.qcow2_image.specs.Found.{kind_in}
+use Rattle.qcow2_image.proofs.Images.Places.{inside_of}
 
 -- ---- refusals
 
@@ -125,7 +126,7 @@ hosted_behind s hosting o place sound inside hosted = elim (cases_lt place (clus
       absurd (omega (arith, none, named))
 ]
 
-module _ {S F : Type 0} (view : S → StorageView) (backing : F → BackingView) (out : List (Option Prepared)) (p : Pending) (image : Qcow2 S F) (sound : ImageInvariant view backing p image out) where
+module _ {S F : Type 0} (view : S → StorageView) (backing : F → BackingView) (out : Mappings) (p : Pending) (image : Qcow2 S F) (sound : ImageInvariant view backing p image out) where
   abbrev h : HeaderFields
   h = image.file.header.fields
 
@@ -142,11 +143,11 @@ module _ {S F : Type 0} (view : S → StorageView) (backing : F → BackingView)
       let e : guest * cluster_size h ≡ guest * cluster_size h + 0 = omega arith in
       let row : guest * cluster_size h / cluster_size h ≡ guest = own_cluster h.cluster_bits guest in
       let rest : guest * cluster_size h % cluster_size h ≡ 0 = ap (λ n. n % cluster_size h) e ∙ mod-mul-add guest (cluster_size h) 0 some in
-      hosted_behind s HostedKept (guest * cluster_size h) host invariant sound.inside (host, ap (cover h (known_in view image.file)) row ∙ kept, omega (arith, rest))
+      hosted_behind s HostedKept (guest * cluster_size h) host invariant (inside_of sound) (host, ap (cover h (known_in view image.file)) row ∙ kept, omega (arith, rest))
 
   -- nor is it new
   pub new_behind : (cluster : ℕ) → 0 < p.new_data cluster → 0 < cluster
   new_behind cluster some =
       let size = pow_pos h.cluster_bits in
-      let behind : cluster_size h ≤ cluster * cluster_size h = hosted_behind s HostedHeld 0 (cluster * cluster_size h) invariant sound.inside (subst (λ c. 0 < p.new_data c) (sym (own_cluster h.cluster_bits cluster)) some) in
+      let behind : cluster_size h ≤ cluster * cluster_size h = hosted_behind s HostedHeld 0 (cluster * cluster_size h) invariant (inside_of sound) (subst (λ c. 0 < p.new_data c) (sym (own_cluster h.cluster_bits cluster)) some) in
       behind_first h.cluster_bits cluster (cluster * cluster_size h) refl (omega (arith, behind, size))

@@ -1,6 +1,6 @@
 -- Why preparing a range of a sound image is refused. A mapping that can be extended stays within 64 bits, and begins at a cluster boundary. Its table is cached and readable.
 use Rattle.std.proofs.Common.{◌≡◌, ◌+◌, ◌*◌, ◌/◌, ◌%◌, ◌^◌, ◌<◌, ◌≤◌, ◌∷◌, inl, inr, ℕ, Bool, List, length, [], Option, Some, refl, ap, ◌∙◌, subst, arith, IsSome}
-use Rattle.qcow2_image.proofs.Common.{slice_get, cases_lt, div-add-mod', mod-mul-add, mod_below, mul-le-mul_right, BackingView, StorageView, host_offset, cluster_size, entries_per_cluster, HeaderView, HeaderFields, Sizes, Sizes-from, l1_entry-past, contents_in, known_in, KeepsHeader, IsEntryAt, l2_at, ImageError, Qcow2, Prepared, ClusterMapping, cluster_of, pending_in, pins_by, IsPending, IsReadyWith, ImageInvariant, MayFailAlone, KeepsL1Place, MayGoOn}
+use Rattle.qcow2_image.proofs.Common.{slice_get, cases_lt, div-add-mod', mod-mul-add, mod_below, mul-le-mul_right, BackingView, StorageView, host_offset, cluster_size, entries_per_cluster, HeaderView, HeaderFields, Sizes, Sizes-from, l1_entry-past, contents_in, known_in, KeepsHeader, IsEntryAt, l2_at, ImageError, Qcow2, Prepared, ClusterMapping, cluster_of, pending_in, pins_by, IsPending, IsReadyWith, ImageInvariant, MayFailAlone, KeepsL1Place, MayGoOn, Mappings}
 use Rattle.qcow2_image.proofs.Images.Apart.{pins_own}
 use Rattle.qcow2_image.proofs.Commit.Entered.{HasFirst, pinned_new_data}
 use Rattle.qcow2_image.proofs.Prepare.FollowingCluster.{host_is, next_cluster, next_is, table_is}
@@ -18,7 +18,7 @@ alone_as compressed far e may_fail = elim may_fail [
 
 -- ---- a mapping that goes on
 
-module _ {S F : Type 0} (view : S → StorageView) (backing : F → BackingView) (old : Qcow2 S F) (out : List (Option Prepared)) (k : ℕ) (p : Prepared) (at : slice_get out k ≡ Some (Some p)) (n table : ℕ) (overwrite : Bool) (may : MayGoOn old.file.header.fields n table p)
+module _ {S F : Type 0} (view : S → StorageView) (backing : F → BackingView) (old : Qcow2 S F) (out : Mappings) (k : ℕ) (p : Prepared) (at : slice_get out.slots k ≡ Some (Some p)) (n table : ℕ) (overwrite : Bool) (may : MayGoOn old.file.header.fields n table p)
     (sound : ImageInvariant view backing (pending_in view backing old out) old out) where
   abbrev h : HeaderFields
   h = old.file.header.fields
@@ -35,8 +35,8 @@ module _ {S F : Type 0} (view : S → StorageView) (backing : F → BackingView)
   abbrev row : ℕ
   row = cluster_of h p / entries
 
-  pending : IsPending h (known_in view old.file) (contents_in view old.file) p table
-  pending = subst (IsReadyWith h (known_in view old.file) (contents_in view old.file) p) may.under (sound.ready k p at).mapped
+  pending : IsPending h out.place (known_in view old.file) (contents_in view old.file) p table
+  pending = subst (IsReadyWith h out.place (known_in view old.file) (contents_in view old.file) p) may.under (sound.ready k p at).mapped
 
   -- its table is held
   held : IsSome (l2_at old.file.caches table)

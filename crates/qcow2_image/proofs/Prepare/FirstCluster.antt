@@ -1,6 +1,6 @@
 -- A cluster is allocated for data, and what a refusal leaves.
 use Rattle.std.proofs.Common.{◌≡◌, ◌+◌, ◌-◌, ◌*◌, ◌%◌, ◌<◌, ◌∷◌, ◌++◌, ◌⊎◌, inl, inr, ℕ, Bool, false, List, [], Option, Some, refl, sym, ap, ◌∙◌, subst, arith, Result, Ok, Err, IfOk, None}
-use Rattle.qcow2_image.proofs.Common.{IsNone, BackingView, StorageView, HeaderFields, cluster_size, with_new_data, new_data_to_old_data, Pending, SafeStep, Disk, known_byte, KeepsFormat, pending_safe_throughout, pending_is_changed, IsPastLimits, run_at, Allocates, AllocatesAt, RefusedGrowth, KeepsPinsAndNotes, Allocator, ClustersToFreeEntry, ImageError, ImageFile, ListsTables, state_in, view_in, contents_in, nothing_given, KeepsHeader, InternalFileGrowth, pending_same, header_format, run_in, IsAllocatorOf, refused_kept, Qcow2, Prepared, IsUsed, NoFreeBelowHint, KeepsNoFreeBelowHint, BrokeOff, file_invariant_of, AllocatesDataAt, pending_with_listed, is_announced, IsFilled, InternalFillingStep, RefusedFillingStep, HoldsAll, ListGrows, AllocatesData, run_of, of_data, of_tables, to_free, new_data_by, over_all, disk_of, ImageInvariant, leaked_by, leaked_in, run_few}
+use Rattle.qcow2_image.proofs.Common.{IsNone, BackingView, StorageView, HeaderFields, cluster_size, with_new_data, new_data_to_old_data, Pending, SafeStep, Disk, known_byte, KeepsFormat, pending_safe_throughout, pending_is_changed, IsPastLimits, run_at, Allocates, AllocatesAt, RefusedGrowth, KeepsPinsAndNotes, Allocator, ClustersToFreeEntry, ImageError, ImageFile, ListsTables, state_in, view_in, contents_in, nothing_given, KeepsHeader, InternalFileGrowth, pending_same, header_format, run_in, IsAllocatorOf, refused_kept, Qcow2, Prepared, IsUsed, NoFreeBelowHint, KeepsNoFreeBelowHint, BrokeOff, file_invariant_of, AllocatesDataAt, pending_with_listed, is_announced, IsFilled, InternalFillingStep, RefusedFillingStep, HoldsAll, ListGrows, AllocatesData, run_of, of_data, of_tables, to_free, new_data_by, over_all, disk_of, ImageInvariant, leaked_by, leaked_in, run_few, Mappings, contents_for}
 use Rattle.qcow2_alloc.specs.declared.clusters_to_free.ClusterKind.TheVariants as Kind
 use Rattle.qcow2_alloc.specs.FreeList.{pending_then as since_listed}
 use Rattle.qcow2_alloc.proofs.ListedAfter.{listed_after_same as same_list}
@@ -10,8 +10,9 @@ use Rattle.qcow2_image.proofs.Commit.Released.{sound_while}
 use Rattle.qcow2_image.proofs.Images.Moving.{file_moved_on}
 use Rattle.qcow2_image.proofs.Open.Reftables.{reftable_still}
 use Rattle.qcow2_image.proofs.Images.Sound.{free_more}
+use Rattle.qcow2_image.specs.declared.mapping.Place.{Place}
 
-module _ {S F : Type 0} (view : S → StorageView) (backing : F → BackingView) (out : List (Option Prepared)) where
+module _ {S F : Type 0} (view : S → StorageView) (backing : F → BackingView) (out : Mappings) where
   -- with the same list all is pending that was
   pub listed_after_same : (p : Pending) (old new : Qcow2 S F) → new.file.free_list ≡ old.file.free_list → pending_with_listed p old new ≡ p
   listed_after_same p old new list = same_list p old.file.free_list new.file.free_list list
@@ -28,8 +29,7 @@ module _ {S F : Type 0} (view : S → StorageView) (backing : F → BackingView)
     file = file_invariant_of sound.file.honest (sound_while image.file.header.fields p q image.file.caches (contents_in view image.file) step.sound sound.file.caches) sound.file.named_blocks sound.file.room;
     l1_table = record { cluster = sound.l1_table.cluster; bits = sound.l1_table.bits; count = sound.l1_table.count; entries = sound.l1_table.entries };
     reftable = reftable_still view image.file (record image.file { free_list = list }) refl refl (λ k. refl) image.allocator sound.reftable;
-    inside = sound.inside;
-    alone = sound.alone;
+    stands = sound.stands;
     below = sound.below;
     ready = λ k r at. let was = sound.ready k r at in record { own = was.own; mapped = was.mapped };
     pinned = sound.pinned;
@@ -158,9 +158,9 @@ module _ {S F : Type 0} (view : S → StorageView) (backing : F → BackingView)
     still_holds k = let h = holds k in omega arith
 
 -- what was filled in an image of the same format that shows the same disk
-pub filled_as : {S F : Type 0} (view : S → StorageView) (backing : F → BackingView) (mid old new : Qcow2 S F) (cluster first offset length : ℕ) (overwrite : Bool) → KeepsFormat old.file.header.fields mid.file.header.fields
-    → disk_of view backing mid ≡ disk_of view backing old → cluster ≡ first → IsFilled view backing mid new cluster offset length overwrite → IsFilled view backing old new first offset length overwrite
-filled_as view backing mid old new cluster first offset length overwrite header shows same filled =
-    let Fills : HeaderFields → Disk → ℕ → Type 0 = λ h d c. (i : ℕ) → i < cluster_size h → is_announced (cluster_size h) offset length overwrite i ≡ false → known_byte (contents_in view new.file (c * cluster_size h + i)) ≡ d.value (offset - offset % cluster_size h + i) in
-    subst (λ c. Fills old.file.header.fields (disk_of view backing old) c) same
-    (subst (λ d. Fills old.file.header.fields d cluster) shows (subst (λ h. Fills h (disk_of view backing mid) cluster) header filled))
+pub filled_as : {S F : Type 0} (view : S → StorageView) (backing : F → BackingView) (place : Place) (mid old new : Qcow2 S F) (cluster first offset length : ℕ) (overwrite : Bool) → KeepsFormat old.file.header.fields mid.file.header.fields
+    → disk_of view backing place mid ≡ disk_of view backing place old → cluster ≡ first → IsFilled view backing place mid new cluster offset length overwrite → IsFilled view backing place old new first offset length overwrite
+filled_as view backing place mid old new cluster first offset length overwrite header shows same filled =
+    let Fills : HeaderFields → Disk → ℕ → Type 0 = λ h d c. (i : ℕ) → i < cluster_size h → is_announced (cluster_size h) offset length overwrite i ≡ false → known_byte (contents_for view backing place new (c * cluster_size h + i)) ≡ d.value (offset - offset % cluster_size h + i) in
+    subst (λ c. Fills old.file.header.fields (disk_of view backing place old) c) same
+    (subst (λ d. Fills old.file.header.fields d cluster) shows (subst (λ h. Fills h (disk_of view backing place mid) cluster) header filled))

@@ -1,6 +1,6 @@
 -- What can come after a prepared mapping: copied data in place, or a new cluster that was filled.
 use Rattle.std.proofs.Common.{◌≡◌, ◌⊎◌, ◌+◌, ◌-◌, ◌*◌, ◌/◌, ◌%◌, ◌<◌, ◌∷◌, ◌&&◌, ◌≢◌, inl, inr, ℕ, Bool, true, false, List, length, [], Option, Some, None, refl, sym, ap, ◌∙◌, subst, arith, min, Result, Ok, Err}
-use Rattle.qcow2_image.proofs.Common.{slice_get, div-add-mod', div-mul-add, mod-mul-add, mod_below, pow_pos, BackingView, StorageView, is_within, HeaderFields, L2Mapping, Data, Zero, cover, known_byte, cluster_size, entries_per_cluster, IsHostCluster, IsInReach, named_run, with_new_data, is_copied_data, cover_format, size_format, IsPastLimits, ClustersToFreeEntry, ImageError, IsEntryAt, contents_in, known_in, Qcow2, Prepared, ClusterMapping, InPlace, New, run_of, of_data, of_tables, to_free, listed_run, disk_of, pending_in, cluster_of, host_begin_of, IsNewAt, IsPending, IsReadyWith, ImageInvariant, InternalCall, Ends, FindsBehind, IsSharedAt, MayGoOn, ClusterMappingsAt, StandsBehind, is_announced, pending_with_listed, IsFilled, InternalFillingStep}
+use Rattle.qcow2_image.proofs.Common.{slice_get, div-add-mod', div-mul-add, mod-mul-add, mod_below, pow_pos, BackingView, StorageView, is_within, HeaderFields, L2Mapping, Data, Zero, cover, known_byte, cluster_size, entries_per_cluster, IsHostCluster, IsInReach, named_run, with_new_data, is_copied_data, cover_format, size_format, IsPastLimits, ClustersToFreeEntry, ImageError, IsEntryAt, contents_in, known_in, Qcow2, Prepared, ClusterMapping, InPlace, New, run_of, of_data, of_tables, to_free, listed_run, disk_of, pending_in, cluster_of, host_begin_of, IsNewAt, IsPending, IsReadyWith, ImageInvariant, InternalCall, Ends, FindsBehind, IsSharedAt, MayGoOn, ClusterMappingsAt, StandsBehind, is_announced, pending_with_listed, IsFilled, InternalFillingStep, Mappings, IsClusterMappingAt, contents_for}
 use Rattle.qcow2_metadata.specs.Entries.{count as count_of}
 use Rattle.qcow2_image.proofs.Call.Refused.{back_refused, image_step_stays}
 use Rattle.qcow2_image.proofs.Prepare.FirstCluster.{listed_after_same}
@@ -8,13 +8,14 @@ use Rattle.qcow2_image.proofs.Prepare.NextCluster.{within_as}
 use Rattle.qcow2_image.proofs.Prepare.InternalWrites.{image_step_none}
 use Rattle.qcow2_image.proofs.Images.ClusterMappings.{place_in}
 use Rattle.qcow2_image.proofs.Images.Sound.{free_more}
+use Rattle.qcow2_image.proofs.Images.Places.{from_image}
 
 -- a host cluster that is in use isn't the mapping's own
 not_own : {A B C : Type 0} → (C → ⊥) → (A ⊎ B) → A ⊎ (B × (C → ⊥))
 not_own never (inl a) = inl a
 not_own never (inr b) = inr (b, never)
 
-module _ {S F : Type 0} (view : S → StorageView) (backing : F → BackingView) (old : Qcow2 S F) (out : List (Option Prepared)) (k : ℕ) (p : Prepared) (at : slice_get out k ≡ Some (Some p)) (n table : ℕ) (overwrite : Bool) (may : MayGoOn old.file.header.fields n table p)
+module _ {S F : Type 0} (view : S → StorageView) (backing : F → BackingView) (old : Qcow2 S F) (out : Mappings) (k : ℕ) (p : Prepared) (at : slice_get out.slots k ≡ Some (Some p)) (n table : ℕ) (overwrite : Bool) (may : MayGoOn old.file.header.fields n table p)
     (sound : ImageInvariant view backing (pending_in view backing old out) old out) where
   abbrev h : HeaderFields
   h = old.file.header.fields
@@ -22,8 +23,8 @@ module _ {S F : Type 0} (view : S → StorageView) (backing : F → BackingView)
   abbrev count : ℕ
   count = length p.clusters.items
 
-  pending : IsPending h (known_in view old.file) (contents_in view old.file) p table
-  pending = subst (IsReadyWith h (known_in view old.file) (contents_in view old.file) p) may.under (sound.ready k p at).mapped
+  pending : IsPending h out.place (known_in view old.file) (contents_in view old.file) p table
+  pending = subst (IsReadyWith h out.place (known_in view old.file) (contents_in view old.file) p) may.under (sound.ready k p at).mapped
 
   -- where it goes on, in the guest and in the file
   pub next_is : p.guest + p.length ≡ (cluster_of h p + count) * cluster_size h
@@ -106,20 +107,20 @@ module _ {S F : Type 0} (view : S → StorageView) (backing : F → BackingView)
       (omega arith) (omega arith) (omega arith))) ∙ opened
 
   -- what was filled of it shows what the guest saw
-  module _ (new : Qcow2 S F) (first : ℕ) (fills : IsFilled view backing old new first (p.guest + p.length) (n - p.length) overwrite) where
+  module _ (new : Qcow2 S F) (first : ℕ) (fills : IsFilled view backing out.place old new first (p.guest + p.length) (n - p.length) overwrite) where
     filled_here : (o : ℕ) → o / cluster_size h ≡ cluster_of h p + count → (overwrite && is_within p.guest (min n (p.length + cluster_size h)) o ≡ false)
-        → known_byte (contents_in view new.file (first * cluster_size h + o % cluster_size h)) ≡ (disk_of view backing old).value o
+        → known_byte (contents_for view backing out.place new (first * cluster_size h + o % cluster_size h)) ≡ (disk_of view backing out.place old).value o
     filled_here o here opened =
         let o_is : o / cluster_size h * cluster_size h + o % cluster_size h ≡ o = div-add-mod' o (cluster_size h) in
         let there : o / cluster_size h * cluster_size h ≡ (cluster_of h p + count) * cluster_size h = ap (λ c. c * cluster_size h) here in
         let is = next_is in
         let begins = next_begins in
         let guest : p.guest + p.length - (p.guest + p.length) % cluster_size h + o % cluster_size h ≡ o = omega arith in
-        fills (o % cluster_size h) (mod_below o (cluster_size h) (pow_pos h.cluster_bits)) (announced_here o here opened) ∙ ap (disk_of view backing old).value guest
+        fills (o % cluster_size h) (mod_below o (cluster_size h) (pow_pos h.cluster_bits)) (announced_here o here opened) ∙ ap (disk_of view backing out.place old).value guest
 
     pub filled_there : (s : ℕ) → s ≡ cluster_size h → (o : ℕ) → o / s ≡ p.guest / s + count → (overwrite && is_within p.guest (min n (p.length + s)) o ≡ false)
-        → known_byte (contents_in view new.file (first * s + o % s)) ≡ (disk_of view backing old).value o
-    filled_there s is o = subst (λ x. o / x ≡ p.guest / x + count → (overwrite && is_within p.guest (min n (p.length + x)) o ≡ false) → known_byte (contents_in view new.file (first * x + o % x)) ≡ (disk_of view backing old).value o) (sym is) (filled_here o)
+        → known_byte (contents_for view backing out.place new (first * s + o % s)) ≡ (disk_of view backing out.place old).value o
+    filled_there s is o = subst (λ x. o / x ≡ p.guest / x + count → (overwrite && is_within p.guest (min n (p.length + x)) o ≡ false) → known_byte (contents_for view backing out.place new (first * x + o % x)) ≡ (disk_of view backing out.place old).value o) (sym is) (filled_here o)
 
   -- ---- in a new cluster
   module _ (new : Qcow2 S F) (mapping : L2Mapping) (reach : IsInReach mapping) (other : is_copied_data mapping ≡ false) (covered : cover h (known_in view old.file) (cluster_of h p + count) ≡ mapping)
@@ -164,9 +165,9 @@ module _ {S F : Type 0} (view : S → StorageView) (backing : F → BackingView)
       old_tables = λ c. let more = ap (λ l. to_free of_tables l c) shared.gained.image_step.list.is ∙ free_more of_tables old.file.free_list shared.gained.image_step.list.more c in omega arith;
       old_data = λ c. let more = ap (λ l. to_free of_data l c) shared.gained.image_step.list.is ∙ free_more of_data old.file.free_list shared.gained.image_step.list.more c in omega arith;
       surplus = refl;
-      stands = stands;
+      stands = from_image (λ place. IsClusterMappingAt hn place (known_in view new.file) (contents_in view new.file) p count (New (run ∷ []) old_data)) sound stands;
       filled = λ o here entered opened.
-          ap (λ at. known_byte (contents_in view new.file at)) (place_in hn p o count here ∙ ap (λ b. b + o % cluster_size hn) (sym place))
+          ap (λ at. known_byte (contents_for view backing out.place new at)) (place_in hn p o count here ∙ ap (λ b. b + o % cluster_size hn) (sym place))
           ∙ filled_there new run.first_cluster (shared.gained.filled (ap (cover h (known_in view old.file)) next_cluster ∙ covered)) (cluster_size hn) size o here opened;
     }
 

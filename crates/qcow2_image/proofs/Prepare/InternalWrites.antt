@@ -1,6 +1,6 @@
 -- Parts of a call that guests don't see: what is pending may change, and clusters may be written that no mapping has.
 use Rattle.std.proofs.Common.{◌≡◌, ◌≢◌, ◌⊎◌, ◌+◌, ◌-◌, ◌/◌, ◌%◌, ◌<◌, ◌≤◌, ◌++◌, ◌*◌, ⊎_elim, inl, inr, ℕ, List, length, [], refl, sym, ap, ◌∙◌, subst, arith, Bool, Option, Some, Result, Ok, Err, IfOk}
-use Rattle.qcow2_image.proofs.Common.{slice_get, cases_lt, mod_below, pow_pos, append_assoc, append-nil, fun_ext, BackingView, overwritten, StorageView, EachMomentSince, IsLeftBy, byte_at-overwritten, byte_at, Bytes, HeaderFields, cluster_size, named_for_tables, disk, over_guests, names, Pending, WritesAt, IsUnnamed, covers_format, format_then, size_format, safe_step_none, safe_step_then, safe_throughout_none, steps_safe_throughout, kept_aligned, tied, in_one, private_written, ImageError, ImageStorage, storage_of, order_of, state_in, view_in, contents_in, known_in, nothing_given, Qcow2, Prepared, IsWriteOutcome, WritesBytes, AreThere, InternalStep, InternalFillingStep, HoldsAll, IsInHeldCluster, SameHeld, cover, L2Mapping, Data, IsAlike, IsAlikeRun, unseen_disk, new_data_by, place_of, backing_bytes, disk_of, ImageInvariant}
+use Rattle.qcow2_image.proofs.Common.{slice_get, cases_lt, mod_below, pow_pos, append_assoc, append-nil, fun_ext, BackingView, overwritten, StorageView, EachMomentSince, IsLeftBy, byte_at-overwritten, byte_at, Bytes, HeaderFields, cluster_size, named_for_tables, disk, over_guests, names, Pending, WritesAt, IsUnnamed, covers_format, format_then, size_format, safe_step_none, safe_step_then, safe_throughout_none, steps_safe_throughout, kept_aligned, tied, in_one, private_written, ImageError, ImageStorage, storage_of, order_of, state_in, view_in, contents_in, known_in, nothing_given, Qcow2, Prepared, IsWriteOutcome, WritesBytes, AreThere, InternalStep, InternalFillingStep, HoldsAll, IsInHeldCluster, SameHeld, cover, L2Mapping, Data, IsAlike, IsAlikeRun, unseen_disk, new_data_by, place_of, backing_bytes, disk_of, ImageInvariant, Mappings, contents_for}
 use Rattle.qcow2_laws.proofs.Shown.{Writes}
 use Rattle.qcow2_laws.proofs.Writes.{new_data_is_unnamed}
 use Rattle.qcow2_alloc.specs.declared.error.ImageError.TheVariants as I
@@ -9,6 +9,7 @@ use Rattle.qcow2_image.proofs.Call.Answered.{same_guest, same_slot, freeing_step
 use Rattle.qcow2_image.proofs.Call.Called.{copied_then}
 use Rattle.qcow2_image.proofs.Map.Loading.{still_moved}
 use Rattle.qcow2_image.proofs.Write.Written.{written, writes, sound_written, since_written, same_l1_written}
+use Rattle.qcow2_image.proofs.Images.Places.{inside_of, from_image}
 
 -- a write to the storage is there or isn't
 pub written_or_not : (r : Result (Unit {0}) ImageError) (old changed new : List ℕ) → IsWriteOutcome r old changed new → (new ≡ old) ⊎ (new ≡ changed)
@@ -16,7 +17,7 @@ written_or_not (Ok done) old changed new is = inr is
 written_or_not (Err I.Storage) old changed new is = is
 written_or_not (Err e) old changed new is = inl is
 
-module _ {S F : Type 0} (view : S → StorageView) (backing : F → BackingView) (out : List (Option Prepared)) where
+module _ {S F : Type 0} (view : S → StorageView) (backing : F → BackingView) (out : Mappings) where
   pub image_step_kept : (a b : Qcow2 S F) (p p' : Pending) → ImageInvariant view backing p a out → HoldsAll view backing p out → HoldsAll view backing p' out → InternalStep view backing p p' a b out → InternalFillingStep view backing p p' a b out
   image_step_kept a b p p' sound holds still keeps = record {
     sound = keeps.sound;
@@ -96,11 +97,11 @@ module _ {S F : Type 0} (view : S → StorageView) (backing : F → BackingView)
     alone = writes view backing old out sound storage at bytes is no_table
 
     apart : Writes cluster (state_in view old.file p) (state_in view new.file p) (λ _. []) (λ below. disk (known_in view old.file) below)
-    apart = private_written (state_in view old.file p) (contents_in view new.file) (known_in view new.file) sound.file.caches.kept.kept.crash_invariant sound.inside cluster own.new_data
+    apart = private_written (state_in view old.file p) (contents_in view new.file) (known_in view new.file) sound.file.caches.kept.kept.crash_invariant (inside_of sound) cluster own.new_data
         (λ o other. alone.others o (outside o other)) (λ o other. alone.known_others o (outside o other)) alone.agree
 
     -- no private byte of a mapping lies there
-    elsewhere : (j : ℕ) (q : Prepared) → slice_get out j ≡ Some (Some q) → (o : ℕ) → Standing h (known_in view old.file) q o → place_of h q o / cluster_size h ≢ cluster
+    elsewhere : (j : ℕ) (q : Prepared) → slice_get out.slots j ≡ Some (Some q) → (o : ℕ) → Standing h (known_in view old.file) q o → place_of h q o / cluster_size h ≢ cluster
     elsewhere j q at_j o (in_new new_data) here =
         let none = own.unused in
         let all = over_all_at new_data_by out j q at_j cluster in
@@ -109,9 +110,9 @@ module _ {S F : Type 0} (view : S → StorageView) (backing : F → BackingView)
     elsewhere j q at_j o (in_kept host kept place) here =
         let state = state_in view old.file p in
         let crash_invariant = sound.file.caches.kept.kept.crash_invariant in
-        let aligned = kept_aligned state crash_invariant sound.inside (o / cluster_size h) host kept in
+        let aligned = kept_aligned state crash_invariant (inside_of sound) (o / cluster_size h) host kept in
         let there : host / cluster_size h ≡ cluster = sym (ap (λ n. n / cluster_size h) place ∙ in_one (cluster_size h) host (o % cluster_size h) aligned (mod_below o (cluster_size h) (pow_pos h.cluster_bits))) ∙ here in
-        let used : 0 < over_guests h (names h (known_in view old.file) cluster) = subst (λ c. 0 < over_guests h (names h (known_in view old.file) c)) there (kept_used state crash_invariant sound.inside (o / cluster_size h) host kept) in
+        let used : 0 < over_guests h (names h (known_in view old.file) cluster) = subst (λ c. 0 < over_guests h (names h (known_in view old.file) c)) there (kept_used state crash_invariant (inside_of sound) (o / cluster_size h) host kept) in
         let t = (tied h p (contents_in view old.file) (known_in view old.file) cluster).known in
         let none = unnamed.no_entry in
         absurd (omega arith)
@@ -126,9 +127,10 @@ module _ {S F : Type 0} (view : S → StorageView) (backing : F → BackingView)
       copied = λ i copied. same_l1_written view backing old out sound storage at bytes is no_table (λ _. []) honest time apart.safe_step apart.unseen.covers i;
       below = refl;
       list = record { more = []; is = sym (append-nil old.file.free_list) };
-      seen = same_guest _ _ (apart.shows (backing_bytes view backing old.backing))
+      seen = same_guest _ _ (from_image (λ place. disk_of view backing place new ≡ disk_of view backing place old) sound (apart.shows (backing_bytes view backing old.backing)))
           (fun_ext (λ k. same_slot view backing old new out refl
-          (λ j q at_j o private. sym (alone.others (place_of h q o) (outside (place_of h q o) (elsewhere j q at_j o (private_stands view backing old out p sound j q at_j o private))))) k (slice_get out k) refl));
+          (λ j q at_j o private. from_image (λ place. contents_for view backing place new (place_of h q o) ≡ contents_for view backing place old (place_of h q o)) sound
+          (sym (alone.others (place_of h q o) (outside (place_of h q o) (elsewhere j q at_j o (private_stands view backing old out p sound j q at_j o private)))))) k (slice_get out.slots k) refl));
       leaks = refl;
     }
 
@@ -143,7 +145,7 @@ module _ {S F : Type 0} (view : S → StorageView) (backing : F → BackingView)
         (⊎_elim still (λ (is : (view_in view new.file).contents ≡ overwritten (view_in view old.file).contents at bytes). image_step_written old p sound cluster at bytes own new.file.storage (w.honest sound.file.honest) (w.time sound.file.honest) is) (written_or_not r (view_in view old.file).contents (overwritten (view_in view old.file).contents at bytes) (view_in view new.file).contents (w.written sound.file.honest)))
 
 -- a range of the same length in an image of the same file
-pub own_of : {S F : Type 0} (view : S → StorageView) (backing : F → BackingView) (p : Pending) (old new : Qcow2 S F) (out : List (Option Prepared)) (cluster at n m : ℕ) → m ≡ n → new.file.header ≡ old.file.header
+pub own_of : {S F : Type 0} (view : S → StorageView) (backing : F → BackingView) (p : Pending) (old new : Qcow2 S F) (out : Mappings) (cluster at n m : ℕ) → m ≡ n → new.file.header ≡ old.file.header
     → IsInHeldCluster view backing p old out cluster at n → IsInHeldCluster view backing p new out cluster at m
 own_of view backing p old new out cluster at n m same file own = record {
   new_data = own.new_data;
@@ -158,10 +160,10 @@ there_written view old new at bytes (Ok done) w honest = λ i lt. ap (λ c. byte
 there_written view old new at bytes (Err e) w honest = tt
 
 -- where no guest sees a change the disk is the same
-pub disk_kept : {S F : Type 0} (view : S → StorageView) (backing : F → BackingView) (old new : Qcow2 S F) (out : List (Option Prepared)) (p : Pending) → ImageInvariant view backing p old out → InternalStep view backing p p old new out → disk_of view backing new ≡ disk_of view backing old
-disk_kept view backing old new out p sound keeps =
-    unseen_disk (state_in view old.file p) (state_in view new.file p) sound.file.caches.kept.kept.crash_invariant sound.inside keeps.sound.file.caches.kept.kept.crash_invariant keeps.unseen (backing_bytes view backing new.backing)
-    ∙ ap (λ (b : Bool × Bytes). disk (known_in view old.file) b.1) keeps.below
+pub disk_kept : {S F : Type 0} (view : S → StorageView) (backing : F → BackingView) (old new : Qcow2 S F) (out : Mappings) (p : Pending) → ImageInvariant view backing p old out → InternalStep view backing p p old new out → disk_of view backing out.place new ≡ disk_of view backing out.place old
+disk_kept view backing old new out p sound keeps = from_image (λ place. disk_of view backing place new ≡ disk_of view backing place old) sound (
+    unseen_disk (state_in view old.file p) (state_in view new.file p) sound.file.caches.kept.kept.crash_invariant (inside_of sound) keeps.sound.file.caches.kept.kept.crash_invariant keeps.unseen (backing_bytes view backing new.backing)
+    ∙ ap (λ (b : Bool × Bytes). disk (known_in view old.file) b.1) keeps.below)
 
 -- a range within one guest cluster is mapped alike
 pub alike_within : (h : HeaderFields) (b : Bytes) (offset n : ℕ) → ((i : ℕ) → i < n → (offset + i) / cluster_size h ≡ offset / cluster_size h) → IsAlikeRun h b offset n

@@ -1,6 +1,6 @@
 -- An L1 entry is written for a new L2 table that is in its cluster.
 use Rattle.std.proofs.Common.{◌≡◌, ◌≢◌, ◌⊎◌, ◌+◌, ◌*◌, ◌/◌, ◌%◌, ◌^◌, ◌<◌, ◌≤◌, inl, inr, ℕ, true, List, [], length, Option, Result, Ok, refl, sym, ap, ◌∙◌, subst, arith}
-use Rattle.qcow2_image.proofs.Common.{cases_eq, eq-eqb, ne_eqb, cond-true, cond-false, append-nil, mod_below, div-add-mod', IfSome, w64, to_be_bytes, BackingView, overwritten, StorageView, EachMomentSince, Changes, Calls, IsLeftBy, StorageError, Bytes, byte_at, HeaderFields, cluster_size, entries_per_cluster, counts_per_block, l1_entry, l2_entry, reftable_entry, block_offset, host_offset, is_copied, L1EntryReads, count, cover, entry_cover, EntryTableView, IsL1TableOf, entry_count, L2TableView, copied_entry, IsHostCluster, table_in, in_cluster, named_for_tables, named_by_l1_table, named_by_reftable, entry_at, ChangesEntry, SafeThroughout, one_at, with_new_tables, renamed, Pending, SameIn, table_at, HasL2, HasOwnL2, HasBlock, SafeStep, IsSameBut, IsSameOutside, WritesL1Entry, IsNewTable, IsInternal, overwritten_but, l1_entry_beside, table_once, clean_counts, shared_covers, Sizes, cover_none, shares, in_l1, l1_has, l1_reftable, table_has, block_has, count_stays, table_is_named, unseen_l2_table, done_safe_throughout, write_safe_throughout, Allocator, ImageStorage, nothing_given, view_in, contents_in, known_in, state_in, storage_of, order_of, l2_tables, refblocks, CacheInvariant, one_here, pending_same, cluster_aligned, AreCurrentIn, current_entry, loaded_named, own_cluster, IsFree, covers_written, file_sizes, known_there, IsAllocatorOf, allocator_kept, file_invariant_of, Qcow2, Prepared, SaysKnown, StandsReady, MayName, NamesCopied, replacing, NamesOwn, KeepsCopied, InternalStep, cluster_of, IsReadyWith, ImageInvariant, HasL1Table}
+use Rattle.qcow2_image.proofs.Common.{cases_eq, eq-eqb, ne_eqb, cond-true, cond-false, append-nil, mod_below, div-add-mod', IfSome, w64, to_be_bytes, BackingView, overwritten, StorageView, EachMomentSince, Changes, Calls, IsLeftBy, StorageError, Bytes, byte_at, HeaderFields, cluster_size, entries_per_cluster, counts_per_block, l1_entry, l2_entry, reftable_entry, block_offset, host_offset, is_copied, L1EntryReads, count, cover, entry_cover, EntryTableView, IsL1TableOf, entry_count, L2TableView, copied_entry, IsHostCluster, table_in, in_cluster, named_for_tables, named_by_l1_table, named_by_reftable, entry_at, ChangesEntry, SafeThroughout, one_at, with_new_tables, renamed, Pending, SameIn, table_at, HasL2, HasOwnL2, HasBlock, SafeStep, IsSameBut, IsSameOutside, WritesL1Entry, IsNewTable, IsInternal, overwritten_but, l1_entry_beside, table_once, clean_counts, shared_covers, Sizes, cover_none, shares, in_l1, l1_has, l1_reftable, table_has, block_has, count_stays, table_is_named, unseen_l2_table, done_safe_throughout, write_safe_throughout, Allocator, ImageStorage, nothing_given, view_in, contents_in, known_in, state_in, storage_of, order_of, l2_tables, refblocks, CacheInvariant, one_here, pending_same, cluster_aligned, AreCurrentIn, current_entry, loaded_named, own_cluster, IsFree, covers_written, file_sizes, known_there, IsAllocatorOf, allocator_kept, file_invariant_of, Qcow2, Prepared, SaysKnown, StandsReady, MayName, NamesCopied, replacing, NamesOwn, KeepsCopied, InternalStep, cluster_of, IsReadyWith, ImageInvariant, HasL1Table, Mappings}
 use Rattle.qcow2_metadata.proofs.EntryTables.{on_sector}
 use Rattle.qcow2_metadata.proofs.TablesAt.{entry_stands}
 use Rattle.qcow2_metadata.proofs.WrittenTables.{IsL1TableOf-written_entry}
@@ -23,7 +23,7 @@ table_alone h at c real =
       | inr other ↦ inside ∙ cond-false {A = ℕ} _ 1 0 (ne_eqb (at * cluster_size h / cluster_size h) c (λ e. other (sym e ∙ own))) ∙ sym (cond-false {A = ℕ} _ 1 0 (ne_eqb c at other))
     ]
 
-module _ {S F : Type 0} (view : S → StorageView) (backing : F → BackingView) (old : Qcow2 S F) (out : List (Option Prepared)) (p : Pending) (index at : ℕ) (t' : EntryTableView) (table : L2TableView)
+module _ {S F : Type 0} (view : S → StorageView) (backing : F → BackingView) (old : Qcow2 S F) (out : Mappings) (p : Pending) (index at : ℕ) (t' : EntryTableView) (table : L2TableView)
     (sound : ImageInvariant view backing (with_new_tables p (one_at at)) old out) (may : MayName view old index) (says : SaysKnown old.file.header.fields (known_in view old.file) index table) (whole : length table.bytes ≡ 2 ^ table.cluster_bits)
     (ready : StandsReady view old at table.bytes) (within : index < entry_count old.l1_table) (nameable : IsHostCluster old.l1_table.cluster_bits at) (same : t' ≡ record old.l1_table { bytes = t'.bytes })
     (enters : ChangesEntry old.l1_table.bytes t'.bytes index (copied_entry (at * 2 ^ old.l1_table.cluster_bits))) (offset : host_offset (entry_at t'.bytes index) ≡ at * 2 ^ old.l1_table.cluster_bits)
@@ -266,9 +266,9 @@ module _ {S F : Type 0} (view : S → StorageView) (backing : F → BackingView)
       entries = table_now;
     }
 
-    ready_named : (j : ℕ) (r : Prepared) → IsReadyWith h known on_storage r r.table → IsReadyWith h (known_in view named.file) on_storage' r r.table
+    ready_named : (j : ℕ) (r : Prepared) → IsReadyWith h out.place known on_storage r r.table → IsReadyWith h out.place (known_in view named.file) on_storage' r r.table
     ready_named j r is_ready =
-        still_ready h known on_storage (known_in view named.file) on_storage' r sound.file.caches.kept.kept.crash_invariant.same_top.l1 safe_step.sound.same_top.l1 own_stays (λ i. unseen.covers (cluster_of h r + i)) r.table is_ready
+        still_ready h out.place known on_storage (known_in view named.file) on_storage' r sound.file.caches.kept.kept.crash_invariant.same_top.l1 safe_step.sound.same_top.l1 own_stays (λ i. unseen.covers (cluster_of h r + i)) r.table is_ready
 
     pub keeps_named : (view (storage_of storage)).is_honest → EachMomentSince (view_in view old.file) (view (storage_of storage)) (IsLeftBy (view (storage_of storage))) → InternalStep view backing q (replacing view p old index) old named out
     keeps_named honest time = record {
@@ -277,8 +277,7 @@ module _ {S F : Type 0} (view : S → StorageView) (backing : F → BackingView)
         file = file_invariant_of honest caches_named (λ c. inl (clean_free (cluster_size h) (refblocks old.file.caches) ready.stored.counts c)) sound.file.room;
         l1_table = l1_named;
         reftable = reftable_named old.allocator sound.reftable;
-        inside = sound.inside;
-        alone = sound.alone;
+        stands = sound.stands;
         below = sound.below;
         ready = λ j r there. let was = sound.ready j r there in record { own = was.own; mapped = ready_named j r was.mapped };
         pinned = sound.pinned;

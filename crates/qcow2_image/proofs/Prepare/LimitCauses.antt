@@ -1,13 +1,14 @@
 -- Why a part of a call was refused for a limit: the cause still holds together with the parts before and after it.
 use Rattle.std.proofs.Common.{◌≡◌, ◌⊎◌, ◌+◌, ◌<◌, ◌≤◌, ◌∷◌, ◌++◌, ◌-◌, ◌*◌, ◌/◌, ◌^◌, inl, inr, ℕ, List, [], Option, Some, Result, Ok, Err, refl, sym, ap, ◌∙◌, subst, arith, IfErr, IsErr, IsErrAnd, IsSome, None, max, length}
-use Rattle.qcow2_image.proofs.Common.{ImageStays, IsBegun, ImageStep, AllocatesDataAt, RefusedFillingStep, AllocatesData, InternalFillingStep, pending_with_listed, GoesTo, IfLimit, IsLimited, IsLimitedAmong, IsLimitedIn, IsLimitedTaking, IsLimitedInternal, IsLimitedWith, LacksPlace, l1_clusters, cases_lt, le-div, pow_pos, OnOk, BackingView, StorageView, EntryTableView, HasRoomIfPlaced, entry_count, IsHostCluster, HeaderView, cluster_size, Pending, ClustersToFreeEntry, ImageError, IsFault, KeepsHeader, IsFaultOr, EffectOnSound, Value, GivenBytes, IsGiven, TouchesLess, works_less, works_then, RefusedCall, InternalCall, Qcow2, Prepared, ImageInvariant, abstract_of, image_abstraction, pending_in, IsLongerL1, clusters_of, l1_index_of, L1EntryOverflows, EndsBefore, HasNearEntry, IsPlacedNear, IsFaultOrLimit, IsUnlimited, handed_on}
+use Rattle.qcow2_image.proofs.Common.{ImageStays, IsBegun, ImageStep, AllocatesDataAt, RefusedFillingStep, AllocatesData, InternalFillingStep, pending_with_listed, GoesTo, IfLimit, IsLimited, IsLimitedAmong, IsLimitedIn, IsLimitedTaking, IsLimitedInternal, IsLimitedWith, LacksPlace, l1_clusters, cases_lt, le-div, pow_pos, OnOk, BackingView, StorageView, EntryTableView, HasRoomIfPlaced, entry_count, IsHostCluster, HeaderView, cluster_size, Pending, ClustersToFreeEntry, ImageError, IsFault, KeepsHeader, IsFaultOr, EffectOnSound, Value, GivenBytes, IsGiven, TouchesLess, works_less, works_then, RefusedCall, InternalCall, Qcow2, Prepared, ImageInvariant, abstract_of, image_abstraction, pending_in, IsLongerL1, clusters_of, l1_index_of, L1EntryOverflows, EndsBefore, HasNearEntry, IsPlacedNear, IsFaultOrLimit, IsUnlimited, handed_on, Mappings, abstraction_at}
 use Rattle.qcow2_image.proofs.Call.BehindHeader.{behind_begun, behind_then}
 use Rattle.qcow2_alloc.specs.declared.error.ImageError.TheVariants as I
 use Rattle.qcow2_image.proofs.Call.Refused.{image_step_stays, stays_kept}
 use Rattle.qcow2_image.proofs.Call.Unlimited.{fault_unlimited}
-use Rattle.qcow2_image.proofs.Images.Free.{free_places}
+use Rattle.qcow2_image.proofs.Images.Free.{free_places, data_inside}
 use Rattle.qcow2_image.proofs.Preallocate.Pieces.{enters, none_of}
 use Rattle.qcow2_disk.proofs.Stops.{given_front, given_more}
+use Rattle.qcow2_image.proofs.Images.Places.{put_first}
 
 -- ---- refusals
 pub limited_not : (e : ImageError) → IsUnlimited e → e ≡ I.Limit → ⊥
@@ -76,7 +77,7 @@ module _ {S F : Type 0} {view : S → StorageView} where
   pub limited_in_since : {Keeps Keeps' : Qcow2 S F → Type 0} {end : ℕ} {old mid : Qcow2 S F} → GoesTo view old mid → ((image : Qcow2 S F) → Keeps image → Keeps' image) → IsLimitedIn view Keeps end mid → IsLimitedIn view Keeps' end old
   limited_in_since goes keeps may_fail = record { mid = may_fail.mid; before = goes_then goes may_fail.before; kept = keeps may_fail.mid may_fail.kept; offset = may_fail.offset; below = may_fail.below; limit = may_fail.limit }
 
-module _ {S F : Type 0} {view : S → StorageView} {backing : F → BackingView} {end : ℕ} {old : Qcow2 S F} {out : List (Option Prepared)} where
+module _ {S F : Type 0} {view : S → StorageView} {backing : F → BackingView} {end : ℕ} {old : Qcow2 S F} {out : Mappings} where
   called : (Keeps : Qcow2 S F → Type 0) → ((mid : Qcow2 S F) → Keeps mid → InternalCall view backing old mid out) → IsLimitedIn view Keeps end old → IsLimitedAmong view backing [] end old out
   called Keeps call may_fail = record { mid = may_fail.mid; now = out; before = may_fail.before; few = omega arith; works = (call may_fail.mid may_fail.kept).works; sound = (call may_fail.mid may_fail.kept).sound; offset = may_fail.offset; below = may_fail.below; limit = may_fail.limit }
 
@@ -89,12 +90,12 @@ module _ {S F : Type 0} {view : S → StorageView} {backing : F → BackingView}
   limited_taking sound may_fail = called _ (λ mid keeps. image_step_stays view backing out old mid sound keeps) may_fail
 
 -- a place more for a mapping
-pub places_enter : {S F : Type 0} (view : S → StorageView) (backing : F → BackingView) (image : Qcow2 S F) (out : List (Option Prepared)) → EffectOnSound (abstract_of view backing image out) (abstract_of view backing image (None ∷ out)) [] []
-places_enter view backing image out = enters (image_abstraction view backing) (free_places view backing) (λ d. refl) image out
+pub places_enter : {S F : Type 0} (view : S → StorageView) (backing : F → BackingView) (image : Qcow2 S F) (out : Mappings) → EffectOnSound (abstract_of view backing image out) (abstract_of view backing image (put_first None out)) [] []
+places_enter view backing image out = enters (abstraction_at view backing out.place) (free_places view backing out.place) (data_inside view backing out.place) image out.slots
 
 -- ---- a limit that was passed, seen from an earlier state
 module _ {S F : Type 0} {view : S → StorageView} {backing : F → BackingView} where
-  pub limited_from : {most most' near far : ℕ} {given : List GivenBytes} {old mid : Qcow2 S F} {out between : List (Option Prepared)} → most ≤ most' → near ≤ far → GoesTo view old mid → ImageInvariant view backing (pending_in view backing mid between) mid between
+  pub limited_from : {most most' near far : ℕ} {given : List GivenBytes} {old mid : Qcow2 S F} {out between : Mappings} → most ≤ most' → near ≤ far → GoesTo view old mid → ImageInvariant view backing (pending_in view backing mid between) mid between
       → EffectOnSound (abstract_of view backing old out) (abstract_of view backing mid between) given [] → IsLimitedWith view backing most given near mid between → IsLimitedWith view backing most' given far old out
   limited_from {given = given} {old = old} {mid = mid} {out = out} {between = between} more upto goes sound works may_fail = record {
     mid = may_fail.mid;
@@ -109,7 +110,7 @@ module _ {S F : Type 0} {view : S → StorageView} {backing : F → BackingView}
   }
 
   -- with room for more mappings, up to a further end
-  pub limited_within : {most most' near far : ℕ} {given : List GivenBytes} {old : Qcow2 S F} {out : List (Option Prepared)} → most ≤ most' → near ≤ far → IsLimitedWith view backing most given near old out → IsLimitedWith view backing most' given far old out
+  pub limited_within : {most most' near far : ℕ} {given : List GivenBytes} {old : Qcow2 S F} {out : Mappings} → most ≤ most' → near ≤ far → IsLimitedWith view backing most given near old out → IsLimitedWith view backing most' given far old out
   limited_within more upto may_fail = record {
     mid = may_fail.mid;
     now = may_fail.now;
@@ -123,16 +124,16 @@ module _ {S F : Type 0} {view : S → StorageView} {backing : F → BackingView}
   }
 
   -- of a call that may give more
-  pub limited_giving : {most end : ℕ} (given : List GivenBytes) {old : Qcow2 S F} {out : List (Option Prepared)} → IsLimitedWith view backing most [] end old out → IsLimitedWith view backing most given end old out
+  pub limited_giving : {most end : ℕ} (given : List GivenBytes) {old : Qcow2 S F} {out : Mappings} → IsLimitedWith view backing most [] end old out → IsLimitedWith view backing most given end old out
   limited_giving given may_fail = record { mid = may_fail.mid; now = may_fail.now; before = may_fail.before; few = may_fail.few; works = none_of _ _ given may_fail.works; sound = may_fail.sound; offset = may_fail.offset; below = may_fail.below; limit = may_fail.limit }
 
   -- of one that gives all that this gave
-  pub limited_less : {most end : ℕ} (given fewer : List GivenBytes) {old : Qcow2 S F} {out : List (Option Prepared)} → ((o : ℕ) (w : Value) → IsGiven given o w → IsGiven fewer o w) → TouchesLess (cluster_size old.file.header.fields) given fewer
+  pub limited_less : {most end : ℕ} (given fewer : List GivenBytes) {old : Qcow2 S F} {out : Mappings} → ((o : ℕ) (w : Value) → IsGiven given o w → IsGiven fewer o w) → TouchesLess (cluster_size old.file.header.fields) given fewer
       → IsLimitedWith view backing most given end old out → IsLimitedWith view backing most fewer end old out
   limited_less given fewer within touches may_fail = record { mid = may_fail.mid; now = may_fail.now; before = may_fail.before; few = may_fail.few; works = works_less _ _ given fewer [] (λ o w is. inr (within o w is)) touches may_fail.works; sound = may_fail.sound; offset = may_fail.offset; below = may_fail.below; limit = may_fail.limit }
 
   -- after a part of a call, with what each of them gives
-  pub limited_joined : {near far : ℕ} {old mid : Qcow2 S F} {out : List (Option Prepared)} → near ≤ far → GoesTo view old mid → ImageInvariant view backing (pending_in view backing mid out) mid out → (first : List GivenBytes)
+  pub limited_joined : {near far : ℕ} {old mid : Qcow2 S F} {out : Mappings} → near ≤ far → GoesTo view old mid → ImageInvariant view backing (pending_in view backing mid out) mid out → (first : List GivenBytes)
       → EffectOnSound (abstract_of view backing old out) (abstract_of view backing mid out) first [] → ((given : List GivenBytes) × IsLimited view backing given near mid out) → (given : List GivenBytes) × IsLimited view backing given far old out
   limited_joined {old = old} {mid = mid} {out = out} upto goes sound first works may_fail = (
     first ++ may_fail.0,
@@ -140,14 +141,14 @@ module _ {S F : Type 0} {view : S → StorageView} {backing : F → BackingView}
         (limited_less may_fail.0 (first ++ may_fail.0) (given_more first may_fail.0) (ungiven_behind (cluster_size mid.file.header.fields) first may_fail.0) may_fail.1),
   )
 
-  pub limited_more : {end : ℕ} {given : List GivenBytes} {old : Qcow2 S F} {out : List (Option Prepared)} → IsLimitedAmong view backing given end old out → IsLimited view backing given end old out
+  pub limited_more : {end : ℕ} {given : List GivenBytes} {old : Qcow2 S F} {out : Mappings} → IsLimitedAmong view backing given end old out → IsLimited view backing given end old out
   limited_more may_fail = limited_within (omega arith) (omega arith) may_fail
 
-  pub limited_upto : {near far : ℕ} {given : List GivenBytes} {old : Qcow2 S F} {out : List (Option Prepared)} → near ≤ far → IsLimited view backing given near old out → IsLimited view backing given far old out
+  pub limited_upto : {near far : ℕ} {given : List GivenBytes} {old : Qcow2 S F} {out : Mappings} → near ≤ far → IsLimited view backing given near old out → IsLimited view backing given far old out
   limited_upto upto may_fail = limited_within (omega arith) upto may_fail
 
   -- after a part that no guest sees
-  pub limited_since : {near far : ℕ} {given : List GivenBytes} {old mid : Qcow2 S F} {out : List (Option Prepared)} → near ≤ far → GoesTo view old mid → InternalCall view backing old mid out → IsLimited view backing given near mid out → IsLimited view backing given far old out
+  pub limited_since : {near far : ℕ} {given : List GivenBytes} {old mid : Qcow2 S F} {out : Mappings} → near ≤ far → GoesTo view old mid → InternalCall view backing old mid out → IsLimited view backing given near mid out → IsLimited view backing given far old out
   limited_since {given = given} upto goes call may_fail = limited_from (omega arith) upto goes call.sound (none_of _ _ given call.works) may_fail
 
 -- ---- where clusters were refused
@@ -163,7 +164,7 @@ module _ {S F : Type 0} (view : S → StorageView) (Keeps : Qcow2 S F → Type 0
   limits_left new (Ok x) left goes lacks why = tt
   limits_left new (Err e) left goes lacks why = limited_left {Keeps = Keeps} new 0 e left goes lacks why
 
-module _ {S F : Type 0} (view : S → StorageView) (backing : F → BackingView) (out : List (Option Prepared)) (p : Pending) (old new : Qcow2 S F) where
+module _ {S F : Type 0} (view : S → StorageView) (backing : F → BackingView) (out : Mappings) (p : Pending) (old new : Qcow2 S F) where
   abbrev Fills : Type 0
   Fills = InternalFillingStep view backing p (pending_with_listed p old new) old new out
 
@@ -186,7 +187,7 @@ cause_within C D (Ok x) why within = tt
 cause_within C D (Err e) why within = elim why [ inl fault ↦ inl fault | inr cause ↦ elim within [ inl fault ↦ inl fault | inr low ↦ inr (cause.0, (cause.1, low)) ] ]
 
 -- ---- L1 entries that are near
-module _ {S F : Type 0} (view : S → StorageView) (backing : F → BackingView) (out : List (Option Prepared)) where
+module _ {S F : Type 0} (view : S → StorageView) (backing : F → BackingView) (out : Mappings) where
   -- an entry that is near lies in a table that has a place
   pub near_placed : (p : Pending) (image : Qcow2 S F) (index : ℕ) → ImageInvariant view backing p image out → HasNearEntry image index → IsSome image.l1_table.cluster
   near_placed p image index sound near =
@@ -225,7 +226,7 @@ module _ {S F : Type 0} where
   ]
 
 -- ---- a longer table's clusters
-module _ {S F : Type 0} (view : S → StorageView) (backing : F → BackingView) (out : List (Option Prepared)) where
+module _ {S F : Type 0} (view : S → StorageView) (backing : F → BackingView) (out : Mappings) where
   -- as many as its entries need, and one at least
   pub table_clusters : (p : Pending) (old : Qcow2 S F) → ImageInvariant view backing p old out → (t : EntryTableView) → IsLongerL1 old t → (header : HeaderView) → KeepsHeader old.file.header header → (n : ℕ) → n ≡ clusters_of t
       → (n ≡ l1_clusters header.fields (entry_count t)) × (0 < entry_count t → 0 < n)
@@ -241,7 +242,7 @@ pub placed_near : (t : EntryTableView) (cluster bits : ℕ) → entry_count t �
 placed_near t cluster bits few same near t' (Ok x) is = subst IsPlacedNear (sym is) (record { few = few; cluster = cluster; is = refl; nameable = subst (λ n. IsHostCluster n cluster) (sym same) near })
 placed_near t cluster bits few same near t' (Err e) is = tt
 
-module _ {S F : Type 0} (view : S → StorageView) (backing : F → BackingView) (out : List (Option Prepared)) where
+module _ {S F : Type 0} (view : S → StorageView) (backing : F → BackingView) (out : Mappings) where
   -- a refused part was followed by freeing, and then a limit refuses: it refused the part too
   pub limited_frees : (old mid new : Qcow2 S F) (e e' : ImageError) → RefusedCall view backing old mid out e → (IsFault e → (e' ≡ e) × (new ≡ mid))
       → (ImageInvariant view backing (pending_in view backing mid out) mid out → (e' ≡ e) ⊎ IsFault e') → e' ≡ I.Limit → e ≡ I.Limit

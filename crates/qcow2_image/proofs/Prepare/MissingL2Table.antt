@@ -1,6 +1,6 @@
 -- If a part that needs an L2 table is refused, and not by a fault, the offset still has no L2 table of its own.
 use Rattle.std.proofs.Common.{◌≡◌, ◌*◌, ◌/◌, ◌%◌, ◌^◌, ◌<◌, ◌≤◌, ◌∷◌, ◌==◌, ◌↔◌, inl, inr, ℕ, suc, Bool, true, false, cond, List, [], length, Option, Some, Result, Ok, Err, refl, sym, ap, ◌∙◌, subst, arith, IfErr, IsTrue}
-use Rattle.qcow2_image.proofs.Common.{lookup, option_map_or, cases_lt, eq-eqb, ltb-true, mod_below, pow_pos, BackingView, StorageView, Bytes, HeaderFields, host_offset, l1_entry, entry_count, cluster_size, HasPlace, Pending, table_at, KeepsFormat, has_table, is_pinned, pinned, AreAllPinned, IsInUseOrFault, Slot, ImageError, IsFault, contents_in, HasPinnedMapping, Qcow2, Prepared, l1_index_of, ImageInvariant, RefusedMove, MayFailLooking, IsFaultOrKeepsL1Table, IsFaultOrLacksTable, LacksTable, MayName, OwnsTable, RefusedStep, pending_with_listed}
+use Rattle.qcow2_image.proofs.Common.{lookup, option_map_or, cases_lt, eq-eqb, ltb-true, mod_below, pow_pos, BackingView, StorageView, Bytes, HeaderFields, host_offset, l1_entry, entry_count, cluster_size, HasPlace, Pending, table_at, KeepsFormat, has_table, is_pinned, pinned, AreAllPinned, IsInUseOrFault, Slot, ImageError, IsFault, contents_in, HasPinnedMapping, Qcow2, Prepared, l1_index_of, ImageInvariant, RefusedMove, MayFailLooking, IsFaultOrKeepsL1Table, IsFaultOrLacksTable, LacksTable, MayName, OwnsTable, RefusedStep, pending_with_listed, Mappings}
 use Rattle.qcow2_image.proofs.Images.Backings.{pinned_by}
 use Rattle.qcow2_image.proofs.Prepare.UnlinkedL2Table.{may_still}
 
@@ -37,7 +37,7 @@ named_place h b i cluster at =
     let below : host_offset (l1_entry h b i) < 2 ^ 64 = omega arith in
     subst (λ n. n < 2 ^ 64) at below
 
-module _ {S F : Type 0} (view : S → StorageView) (backing : F → BackingView) (out : List (Option Prepared)) where
+module _ {S F : Type 0} (view : S → StorageView) (backing : F → BackingView) (out : Mappings) where
   -- ---- refusals of a cache
   module _ (p : Pending) (image : Qcow2 S F) (sound : ImageInvariant view backing p image out) where
     -- where no table may leave the cache of L2 tables, a mapping is prepared

@@ -1,9 +1,10 @@
 -- A prepared mapping that isn't existing lies in clusters that an entry can hold, so within 64 bits.
-use Rattle.qcow2_image.proofs.Common.{div-add-mod', mod_below, pow_pos, slice_get-get_or, BackingView, StorageView, Bytes, CoverIsAligned, cover, cover_of, cover_under, host_offset, cluster_size, greatest_offset, HeaderFields, L2Mapping, Pending, contents_in, known_in, Qcow2, Prepared, ClusterMapping, InPlace, Kept, New, cluster_of, host_begin_of, IsPending, IsReadyWith, IsClusterMappingAt, ImageInvariant, table_of}
+use Rattle.qcow2_image.proofs.Common.{div-add-mod', mod_below, pow_pos, slice_get-get_or, BackingView, StorageView, Bytes, CoverIsAligned, cover, cover_of, cover_under, host_offset, cluster_size, greatest_offset, HeaderFields, L2Mapping, Pending, contents_in, known_in, Qcow2, Prepared, ClusterMapping, InPlace, Kept, New, cluster_of, host_begin_of, IsPending, IsReadyWith, IsClusterMappingAt, ImageInvariant, table_of, Mappings, IsKeptAt, IsNewAt}
 use Rattle.std.proofs.Common.{◌≡◌, ◌+◌, ◌*◌, ◌/◌, ◌%◌, ◌^◌, ◌<◌, ◌≤◌, if◌then◌else◌, ℕ, Bool, true, false, List, Option, Some, None, refl, subst, arith, get_or, pow_mono}
 use Rattle.qcow2_metadata.specs.declared.l2_mapping.L2Mapping.TheVariants as M
 use Rattle.qcow2_image.proofs.Commit.Entered.{HasFirst}
 use Rattle.qcow2_image.proofs.Images.ClusterMappings.{byte_place, byte_of_mapping}
+use Rattle.qcow2_image.proofs.Images.Places.{at_image}
 
 -- ---- places that entries name
 
@@ -36,7 +37,7 @@ cover_near h b g = near_if _ _ _ near_uncovered (near_if _ _ _ (near_compressed 
 
 -- ---- where a prepared mapping lies
 
-module _ {S F : Type 0} (view : S → StorageView) (backing : F → BackingView) (old : Qcow2 S F) (out : List (Option Prepared)) (pending : Pending) (sound : ImageInvariant view backing pending old out) (p : Prepared) where
+module _ {S F : Type 0} (view : S → StorageView) (backing : F → BackingView) (old : Qcow2 S F) (out : Mappings) (pending : Pending) (sound : ImageInvariant view backing pending old out) (p : Prepared) where
   abbrev h : HeaderFields
   h = old.file.header.fields
 
@@ -47,17 +48,19 @@ module _ {S F : Type 0} (view : S → StorageView) (backing : F → BackingView)
   small = pow_mono sound.file.caches.kept.kept.crash_invariant.top.header_reads.well_formed.in_range.cluster_bits.1
 
   -- where the cluster of a cluster mapping lies
-  pub stands_first : (cluster_mapping : ClusterMapping) (i : ℕ) → IsClusterMappingAt h (known_in view old.file) (contents_in view old.file) p i cluster_mapping → HasFirst h p i
+  pub stands_first : (cluster_mapping : ClusterMapping) (i : ℕ) → IsClusterMappingAt h out.place (known_in view old.file) (contents_in view old.file) p i cluster_mapping → HasFirst h p i
   stands_first InPlace i is =
       let aligned : host_begin_of h p i % size ≡ 0 = subst (CoverIsAligned h) is (sound.file.caches.kept.kept.crash_invariant.known_aligned (cluster_of h p + i)) in
       let whole : host_begin_of h p i / size * size + host_begin_of h p i % size ≡ host_begin_of h p i = div-add-mod' (host_begin_of h p i) size in
       let near = (cover_near h (known_in view old.file) (cluster_of h p + i)).near (host_begin_of h p i) true is in
       record { first = host_begin_of h p i / size; place = omega (arith, aligned, whole); nameable = omega (arith, aligned, whole, near) }
-  stands_first Kept i is = record { first = is.first; place = is.place; nameable = is.nameable }
-  stands_first (New taken old_data) i is = record { first = is.first; place = is.place; nameable = is.nameable }
+  stands_first Kept i is = let at : IsKeptAt h (known_in view old.file) (contents_in view old.file) p i = at_image (λ place. IsClusterMappingAt h place (known_in view old.file) (contents_in view old.file) p i Kept) sound is in record { first = at.first; place = at.place; nameable = at.nameable }
+  stands_first (New taken old_data) i is =
+      let at : IsNewAt h (known_in view old.file) (contents_in view old.file) p i taken old_data = at_image (λ place. IsClusterMappingAt h place (known_in view old.file) (contents_in view old.file) p i (New taken old_data)) sound is in
+      record { first = at.first; place = at.place; nameable = at.nameable }
 
   -- a byte of a mapping that isn't existing lies within 64 bits
-  byte_near : (table : ℕ) → IsPending h (known_in view old.file) (contents_in view old.file) p table → (at n : ℕ) → at + n ≤ p.length → 0 < n → p.offset + at < 2 ^ 64
+  byte_near : (table : ℕ) → IsPending h out.place (known_in view old.file) (contents_in view old.file) p table → (at n : ℕ) → at + n ≤ p.length → 0 < n → p.offset + at < 2 ^ 64
   byte_near table ready at n fits some =
       let place = byte_place h p (known_in view old.file) (contents_in view old.file) table ready at 0 n fits some in
       let index = (p.guest % size + at + 0) / size in
@@ -70,8 +73,8 @@ module _ {S F : Type 0} (view : S → StorageView) (backing : F → BackingView)
       omega (arith, place, begins, near, rest, s)
 
   -- so a place past them is one of an existing mapping
-  pub past_existing : IsReadyWith h (known_in view old.file) (contents_in view old.file) p p.table → (at n : ℕ) → at + n ≤ p.length → 0 < n → 2 ^ 64 ≤ p.offset + at → table_of p ≡ None
+  pub past_existing : IsReadyWith h out.place (known_in view old.file) (contents_in view old.file) p p.table → (at n : ℕ) → at + n ≤ p.length → 0 < n → 2 ^ 64 ≤ p.offset + at → table_of p ≡ None
   past_existing ready at n fits some past = by_table p.table ready where
-    by_table : (t : Option ℕ) → IsReadyWith h (known_in view old.file) (contents_in view old.file) p t → t ≡ None
+    by_table : (t : Option ℕ) → IsReadyWith h out.place (known_in view old.file) (contents_in view old.file) p t → t ≡ None
     by_table None none = refl
     by_table (Some t) is = absurd (let near = byte_near t is at n fits some in omega (arith, near, past))

@@ -1,7 +1,9 @@
 -- A mapping is prepared in a new cluster, or in place.
 use Rattle.std.proofs.Common.{◌≡◌, ◌+◌, ◌-◌, ◌*◌, ◌/◌, ◌%◌, ◌^◌, ◌<◌, ◌∷◌, ◌↔◌, ◌&&◌, inl, inr, ℕ, Bool, true, false, List, [], Option, Some, None, refl, sym, ap, ◌∙◌, subst, arith, IsSome, IsTrue, min, nat_le, nat_lt}
-use Rattle.qcow2_image.proofs.Common.{ImageError, L2Mapping, IsInReach, named_run, IsHostCluster, is_copied_data, slice_get, cases_lt, cond-true, le-leb, lt-ltb, lt-leb, le-ltb, div-mul-add, div-add-mod', mod_below, pow_pos, BackingView, StorageView, is_within, HeaderFields, cluster_size, entries_per_cluster, l1_entry, host_offset, is_copied, cover, known_byte, Data, with_new_data, Pending, table_at, guest_of, cover_format, l1_format, size_format, l2_pins, IsEntryAt, l2_at, contents_in, known_in, Qcow2, Prepared, ClusterMapping, InPlace, New, ClustersToFreeEntry, l1_index_of, l2_index_of, number_of, IsReadied, is_announced, IsFilled, InternalFillingStep, RefusedFillingStep, HoldsAll, HoldsTable, IsGained, InternalStep, Pins, SameHeld, pending_with_listed, run_of, to_free, of_data, of_tables, new_data_in, listed_run, disk_of, pending_in, abstract_of, meaning, is_entered, is_private, cluster_of, host_begin_of, place_of, IsNewAt, IsClusterMappingAt, ImageInvariant}
+use Rattle.qcow2_image.proofs.Common.{ImageError, L2Mapping, IsInReach, named_run, IsHostCluster, is_copied_data, slice_get, cases_lt, cond-true, le-leb, lt-ltb, lt-leb, le-ltb, div-mul-add, div-add-mod', mod_below, pow_pos, BackingView, StorageView, is_within, HeaderFields, cluster_size, entries_per_cluster, l1_entry, host_offset, is_copied, cover, known_byte, Data, with_new_data, Pending, table_at, guest_of, cover_format, l1_format, size_format, l2_pins, IsEntryAt, l2_at, contents_in, known_in, Qcow2, Prepared, ClusterMapping, InPlace, New, ClustersToFreeEntry, l1_index_of, l2_index_of, number_of, IsReadied, is_announced, IsFilled, InternalFillingStep, RefusedFillingStep, HoldsAll, HoldsTable, IsGained, InternalStep, Pins, SameHeld, pending_with_listed, run_of, to_free, of_data, of_tables, new_data_in, listed_run, disk_of, pending_in, abstract_of, meaning, is_entered, is_private, cluster_of, host_begin_of, place_of, IsNewAt, IsClusterMappingAt, ImageInvariant, Mappings, contents_for}
 use Rattle.qcow2_image.proofs.Lemmas.{place_in, private_shared, entry_at_format, l1_shared, listed_after_same, still_holds, taken_new_data, image_step_kept, image_step_none, image_step_then, free_more, mapping_at, one_mapping, IsNowPending, readied, prepared_by, private_inside}
+use Rattle.qcow2_image.specs.declared.mapping.Place.{Place}
+use Rattle.qcow2_image.proofs.Images.Places.{from_image}
 
 -- a place within a range, both so many bytes further on
 le_shift : (g a i : ℕ) → nat_le (g + a) (g + i) ≡ nat_le a i
@@ -27,10 +29,10 @@ within_cluster size offset m o here =
     ap (λ x. is_within x m o) (sym offset_is) ∙ ap (λ y. is_within (offset / size * size + offset % size) m y) same ∙ within_shift (offset / size * size) (offset % size) m (o % size)
 
 -- what was filled shows what the guest saw
-pub filled_byte : {S F : Type 0} (view : S → StorageView) (backing : F → BackingView) (old filled : Qcow2 S F) (first offset length : ℕ) (overwrite : Bool) → IsFilled view backing old filled first offset length overwrite
+pub filled_byte : {S F : Type 0} (view : S → StorageView) (backing : F → BackingView) (place : Place) (old filled : Qcow2 S F) (first offset length : ℕ) (overwrite : Bool) → IsFilled view backing place old filled first offset length overwrite
     → (size : ℕ) → size ≡ cluster_size old.file.header.fields → (o : ℕ) → o / size ≡ offset / size → (overwrite && is_within offset (min length (size - offset % size)) o ≡ false)
-    → known_byte (contents_in view filled.file (first * size + o % size)) ≡ (disk_of view backing old).value o
-filled_byte view backing old filled first offset length overwrite fills size is o here opened =
+    → known_byte (contents_for view backing place filled (first * size + o % size)) ≡ (disk_of view backing place old).value o
+filled_byte view backing place old filled first offset length overwrite fills size is o here opened =
     let h = old.file.header.fields in
     let open_there : is_announced (cluster_size h) offset length overwrite (o % cluster_size h) ≡ false =
     subst (λ x. is_announced x offset length overwrite (o % x) ≡ false) is (ap (λ b. overwrite && b) (sym (within_cluster size offset (min length (size - offset % size)) o here)) ∙ opened) in
@@ -38,9 +40,9 @@ filled_byte view backing old filled first offset length overwrite fills size is 
     let o_is : o / cluster_size h * cluster_size h + o % cluster_size h ≡ o = div-add-mod' o (cluster_size h) in
     let offset_is : offset / cluster_size h * cluster_size h + offset % cluster_size h ≡ offset = div-add-mod' offset (cluster_size h) in
     let product : o / cluster_size h * cluster_size h ≡ offset / cluster_size h * cluster_size h = ap (λ c. c * cluster_size h) same_guest in
-    let place : offset - offset % cluster_size h + o % cluster_size h ≡ o = omega arith in
-    ap (λ x. known_byte (contents_in view filled.file (first * x + o % x))) is
-    ∙ fills (o % cluster_size h) (mod_below o (cluster_size h) (pow_pos h.cluster_bits)) open_there ∙ ap (disk_of view backing old).value place
+    let at : offset - offset % cluster_size h + o % cluster_size h ≡ o = omega arith in
+    ap (λ x. known_byte (contents_for view backing place filled (first * x + o % x))) is
+    ∙ fills (o % cluster_size h) (mod_below o (cluster_size h) (pow_pos h.cluster_bits)) open_there ∙ ap (disk_of view backing place old).value at
 
 pub not_pinned : (n : ℕ) (b : Bool) → (IsTrue b ↔ (0 < n)) → b ≡ false → n ≡ 0
 not_pinned n b iff isnt = elim (cases_lt 0 n) [
@@ -68,7 +70,7 @@ first_stands view backing old p offset table guest bits cluster first found here
     let entry = first_entry view backing old offset table guest bits cluster found here same holds in
     subst (λ g. cover old.file.header.fields (known_in view old.file) g ≡ first) is (stands entry.0 entry.1)
 
-module _ {S F : Type 0} (view : S → StorageView) (backing : F → BackingView) (out : List (Option Prepared)) where
+module _ {S F : Type 0} (view : S → StorageView) (backing : F → BackingView) (out : Mappings) where
   -- a table that is held and marked copied is named as before
   pub holds_still : (old new : Qcow2 S F) (p q : Pending) (offset table : ℕ) → ImageInvariant view backing p old out → InternalFillingStep view backing p q old new out → HoldsTable view backing old offset table → IsSome (l2_at new.file.caches table) → HoldsTable view backing new offset table
   holds_still old new p q offset table sound image_step holds new_data =
@@ -101,7 +103,7 @@ module _ {S F : Type 0} (view : S → StorageView) (backing : F → BackingView)
       absurd (let f : true ≡ false = sym shared.entered ∙ ap is_entered is_one.1 in cc)
 
   -- ---- in place
-  pub readied_in_place : (old new : Qcow2 S F) (like : Prepared) → like.clusters.items ≡ InPlace ∷ [] → (k offset n table host : ℕ) (overwrite : Bool) → slice_get out k ≡ Some None → ImageInvariant view backing (pending_in view backing old out) old out → HoldsTable view backing old offset table
+  pub readied_in_place : (old new : Qcow2 S F) (like : Prepared) → like.clusters.items ≡ InPlace ∷ [] → (k offset n table host : ℕ) (overwrite : Bool) → slice_get out.slots k ≡ Some None → ImageInvariant view backing (pending_in view backing old out) old out → HoldsTable view backing old offset table
       → l2_pins old.file.caches table ≡ 0 → cover old.file.header.fields (known_in view old.file) (offset / cluster_size old.file.header.fields) ≡ Data host true → Pins table old new
       → IsReadied view backing old new out k offset n overwrite (mapping_at old.file.header.fields (number_of old) table offset host like)
   readied_in_place old new like one k offset n table host overwrite free sound holds unpinned is pins =
@@ -110,7 +112,7 @@ module _ {S F : Type 0} (view : S → StorageView) (backing : F → BackingView)
       let image_step = image_step_none view backing out old q sound in
       let begin : host_begin_of old.file.header.fields (mapping_at old.file.header.fields (number_of old) table offset host like) 0 ≡ host = omega arith in
       let first : cluster_of old.file.header.fields (mapping_at old.file.header.fields (number_of old) table offset host like) + 0 ≡ offset / cluster_size old.file.header.fields = omega arith in
-      let stands : IsClusterMappingAt old.file.header.fields (known_in view old.file) (contents_in view old.file) (mapping_at old.file.header.fields (number_of old) table offset host like) 0 InPlace =
+      let stands : IsClusterMappingAt old.file.header.fields out.place (known_in view old.file) (contents_in view old.file) (mapping_at old.file.header.fields (number_of old) table offset host like) 0 InPlace =
       ap (cover old.file.header.fields (known_in view old.file)) first ∙ is ∙ ap (λ b. Data b true) (sym begin) in
       let now : IsNowPending old out (mapping_at old.file.header.fields (number_of old) table offset host like) q q.surplus =
       record { new_data = λ c. (let none : new_data_in like.clusters.items c ≡ 0 = ap (λ (l : List ClusterMapping). new_data_in l c) one in omega arith); new_tables = λ c. refl; old_tables = λ c. refl; old_data = λ c. refl; surplus = refl } in
@@ -120,7 +122,7 @@ module _ {S F : Type 0} (view : S → StorageView) (backing : F → BackingView)
       (prepared_by view backing old old out k free q image_step offset table host InPlace like one holds unpinned stands new.file.caches pins.tables more now n overwrite (λ o private. absurd (never_private old p one o private))))
 
   -- ---- in a new cluster
-  module _ (old filled mid : Qcow2 S F) (n : ClustersToFreeEntry) (mapping : L2Mapping) (reach : IsInReach mapping) (other : is_copied_data mapping ≡ false) (taken old_data : List ClustersToFreeEntry) (taken_is : taken ≡ n ∷ []) (old_data_is : old_data ≡ listed_run (named_run old.file.header.fields.cluster_bits mapping)) (like : Prepared) (one : like.clusters.items ≡ New taken old_data ∷ []) (k offset length table host : ℕ) (overwrite : Bool) (free : slice_get out k ≡ Some None) (sound : ImageInvariant view backing (pending_in view backing old out) old out)
+  module _ (old filled mid : Qcow2 S F) (n : ClustersToFreeEntry) (mapping : L2Mapping) (reach : IsInReach mapping) (other : is_copied_data mapping ≡ false) (taken old_data : List ClustersToFreeEntry) (taken_is : taken ≡ n ∷ []) (old_data_is : old_data ≡ listed_run (named_run old.file.header.fields.cluster_bits mapping)) (like : Prepared) (one : like.clusters.items ≡ New taken old_data ∷ []) (k offset length table host : ℕ) (overwrite : Bool) (free : slice_get out.slots k ≡ Some None) (sound : ImageInvariant view backing (pending_in view backing old out) old out)
       (holds : HoldsTable view backing old offset table) (unpinned : l2_pins old.file.caches table ≡ 0) (covered : cover old.file.header.fields (known_in view old.file) (offset / cluster_size old.file.header.fields) ≡ mapping)
       (gained : IsGained view backing (pending_in view backing old out) old filled out offset length overwrite mapping n) (nameable : IsHostCluster old.file.header.fields.cluster_bits n.first_cluster)
       (keeps : InternalStep view backing (with_new_data (pending_with_listed (pending_in view backing old out) old filled) (run_of n)) (with_new_data (pending_with_listed (pending_in view backing old out) old filled) (run_of n)) filled mid out)
@@ -169,6 +171,9 @@ module _ {S F : Type 0} (view : S → StorageView) (backing : F → BackingView)
       drops = old_data_is ∙ ap (λ (x : HeaderFields). listed_run (named_run x.cluster_bits mapping)) (sym image_step_on.header) ∙ ap (λ v. listed_run (named_run hm.cluster_bits v)) (sym stays_covered);
     }
 
+    stands_so : IsClusterMappingAt hm out.place (known_in view mid.file) (contents_in view mid.file) p 0 (New taken old_data)
+    stands_so = from_image (λ file. IsClusterMappingAt hm file (known_in view mid.file) (contents_in view mid.file) p 0 (New taken old_data)) sound stands
+
     now : IsNowPending mid out p q before.surplus
     now = record {
       new_data = λ c.
@@ -192,18 +197,19 @@ module _ {S F : Type 0} (view : S → StorageView) (backing : F → BackingView)
           let there = div-mul-add n.first_cluster (cluster_size hm) (o % cluster_size hm) (mod_below o (cluster_size hm) (pow_pos hm.cluster_bits)) in
           subst (λ c. 0 < q.new_data c) (sym (ap (λ x. (n.first_cluster * cluster_size hm + o % cluster_size hm) / x) size ∙ there)) (taken_new_data view backing out old filled before n gained.one all_new_data gained.image_step)
 
-      old_values : (o : ℕ) → IsTrue (is_private view backing pinned p o) → (overwrite && is_within offset (min length (cluster_size hm - offset % cluster_size hm)) o ≡ false) → (meaning view backing pinned p).shown o ≡ (guest_of (abstract_of view backing old out)).disk.value o
+      old_values : (o : ℕ) → IsTrue (is_private view backing pinned p o) → (overwrite && is_within offset (min length (cluster_size hm - offset % cluster_size hm)) o ≡ false) → (meaning view backing out.place pinned p).shown o ≡ (guest_of (abstract_of view backing old out)).disk.value o
       old_values o private opened =
           let more = pins.pins found unpinned_now in
-          let here = private_inside view backing old mid out k free q image_step_on offset table host (New taken old_data) like one holds_now unpinned_now stands new.file.caches pins.tables more now o private in
+          let here = private_inside view backing old mid out k free q image_step_on offset table host (New taken old_data) like one holds_now unpinned_now stands_so new.file.caches pins.tables more now o private in
           let place = place_in hm p o 0 (here ∙ sym first_cluster) in
           let begin : place_of hm p o ≡ n.first_cluster * cluster_size hm + o % cluster_size hm = omega (arith, host_is, place) in
-          ap known_byte (cond-true _ _ _ private ∙ ap (contents_in view mid.file) begin ∙ same (n.first_cluster * cluster_size hm + o % cluster_size hm) (new_data_place o))
-          ∙ filled_byte view backing old filled n.first_cluster offset length overwrite (gained.filled covered) (cluster_size hm) (ap (λ (x : HeaderFields). cluster_size x) image_step_on.header) o here opened
+          ap known_byte (cond-true _ _ _ private ∙ ap (contents_for view backing out.place mid) begin
+          ∙ from_image (λ file. contents_for view backing file mid (n.first_cluster * cluster_size hm + o % cluster_size hm) ≡ contents_for view backing file filled (n.first_cluster * cluster_size hm + o % cluster_size hm)) sound (same (n.first_cluster * cluster_size hm + o % cluster_size hm) (new_data_place o)))
+          ∙ filled_byte view backing out.place old filled n.first_cluster offset length overwrite (gained.filled covered) (cluster_size hm) (ap (λ (x : HeaderFields). cluster_size x) image_step_on.header) o here opened
 
       pub readied_new : IsReadied view backing old new out k offset length overwrite p
       readied_new =
           let more = pins.pins found unpinned_now in
           subst (λ (image : Qcow2 S F). IsReadied view backing old image out k offset length overwrite p) (sym pins.rest)
-          (readied view backing old mid out k free q image_step_on offset table host (New taken old_data) like one holds_now unpinned_now stands new.file.caches pins.tables more now sound.file.caches.kept.kept.crash_invariant length overwrite
-          (prepared_by view backing old mid out k free q image_step_on offset table host (New taken old_data) like one holds_now unpinned_now stands new.file.caches pins.tables more now length overwrite old_values))
+          (readied view backing old mid out k free q image_step_on offset table host (New taken old_data) like one holds_now unpinned_now stands_so new.file.caches pins.tables more now sound.file.caches.kept.kept.crash_invariant length overwrite
+          (prepared_by view backing old mid out k free q image_step_on offset table host (New taken old_data) like one holds_now unpinned_now stands_so new.file.caches pins.tables more now length overwrite old_values))

@@ -1,12 +1,12 @@
 -- The bytes of a new L2 table are written to its cluster, and then the table is inserted into the cache.
 use Rattle.std.proofs.Common.{◌≡◌, ◌+◌, ◌*◌, ◌^◌, ◌<◌, ℕ, List, length, Option, Result, Ok, refl, sym, ap, ◌∙◌, subst, arith, Err, Some}
-use Rattle.qcow2_image.proofs.Common.{IfSome, OnOk, ImageError, BackingView, overwritten, StorageView, Changes, Calls, StorageError, byte_at-overwritten, Bytes, byte_at, HeaderFields, cluster_size, L2TableView, Pending, data_is_written, Allocator, ImageStorage, view_in, contents_in, state_in, storage_of, order_of, l2_tables, refblocks, l2_at, HoldsKnown, InternalCacheStep, HasBytesAt, l2_pins, CachesHaveRoom, MetadataCaches, AreClean, BlocksMayGo, IsFree, covers_written, known_there, file_step_rewritten, reftable_rewritten, IsAllocatorOf, Qcow2, Prepared, IsStored, PlacesNewTable, StandsReady, InternalStep, ImageInvariant}
+use Rattle.qcow2_image.proofs.Common.{IfSome, OnOk, ImageError, BackingView, overwritten, StorageView, Changes, Calls, StorageError, byte_at-overwritten, Bytes, byte_at, HeaderFields, cluster_size, L2TableView, Pending, data_is_written, Allocator, ImageStorage, view_in, contents_in, state_in, storage_of, order_of, l2_tables, refblocks, l2_at, HoldsKnown, InternalCacheStep, HasBytesAt, l2_pins, CachesHaveRoom, MetadataCaches, AreClean, BlocksMayGo, IsFree, covers_written, known_there, file_step_rewritten, reftable_rewritten, IsAllocatorOf, Qcow2, Prepared, IsStored, PlacesNewTable, StandsReady, InternalStep, ImageInvariant, Mappings}
 use Rattle.qcow2_alloc.proofs.PlacedBlocks.{in_own}
 use Rattle.qcow2_image.proofs.Open.Reftables.{allocator_moved}
 use Rattle.qcow2_image.proofs.Map.Loading.{caches_moved, with_caches}
 use Rattle.qcow2_image.proofs.Images.Moving.{file_moved}
 
-module _ {S F : Type 0} (view : S → StorageView) (backing : F → BackingView) (old : Qcow2 S F) (out : List (Option Prepared)) (p : Pending) (sound : ImageInvariant view backing p old out)
+module _ {S F : Type 0} (view : S → StorageView) (backing : F → BackingView) (old : Qcow2 S F) (out : Mappings) (p : Pending) (sound : ImageInvariant view backing p old out)
     (stored : IsStored view old) (at : ℕ) (some : 0 < p.new_tables at) where
   abbrev h : HeaderFields
   h = old.file.header.fields
@@ -61,7 +61,7 @@ module _ {S F : Type 0} (view : S → StorageView) (backing : F → BackingView)
     }
 
 -- ---- the table is put into its cache
-module _ {S F : Type 0} (view : S → StorageView) (backing : F → BackingView) (old : Qcow2 S F) (out : List (Option Prepared)) (p : Pending) (sound : ImageInvariant view backing p old out)
+module _ {S F : Type 0} (view : S → StorageView) (backing : F → BackingView) (old : Qcow2 S F) (out : Mappings) (p : Pending) (sound : ImageInvariant view backing p old out)
     (stored : IsStored view old) (at : ℕ) (some : 0 < p.new_tables at) (bytes : List ℕ) (long : length bytes ≡ cluster_size old.file.header.fields)
     (stands : HasBytesAt (contents_in view old.file) (at * cluster_size old.file.header.fields) bytes) where
   pub holds : HoldsKnown old.file.header.fields old.file.caches (contents_in view old.file) bytes at
@@ -96,7 +96,7 @@ module _ {S F : Type 0} (view : S → StorageView) (backing : F → BackingView)
     stands_ready t new_data is = record { stored = stored_put; new_data = (t, new_data, is); stands = stands_put }
 
 -- it is placed, or it isn't
-pub places_when : {S F : Type 0} (view : S → StorageView) (backing : F → BackingView) (old new : Qcow2 S F) (out : List (Option Prepared)) (p : Pending) (at : ℕ) (bytes : List ℕ) (r : Result (Unit {0}) ImageError)
+pub places_when : {S F : Type 0} (view : S → StorageView) (backing : F → BackingView) (old new : Qcow2 S F) (out : Mappings) (p : Pending) (at : ℕ) (bytes : List ℕ) (r : Result (Unit {0}) ImageError)
     → InternalStep view backing p p old new out → OnOk r (StandsReady view new at bytes) → PlacesNewTable view backing p old new out at bytes r
 places_when view backing old new out p at _ (Ok x) keeps ready = (keeps, ready)
 places_when view backing old new out p at _ (Err e) keeps ready = keeps

@@ -1,12 +1,13 @@
 -- A prepared mapping is extended by the next cluster.
 use Rattle.std.proofs.Common.{◌≡◌, ◌⊎◌, ◌+◌, ◌-◌, ◌*◌, ◌/◌, ◌%◌, ◌<◌, ◌≤◌, ◌∷◌, ◌++◌, ◌&&◌, ⊎_elim, inl, inr, ℕ, zero, suc, Bool, true, false, List, length, [], Option, Some, refl, sym, ap, ◌∙◌, subst, arith, min, IsTrue, nat_le, nat_lt}
-use Rattle.qcow2_image.proofs.Common.{slice_get, slice_set, fun_ext, cases_lt, cond-true, le-leb, lt-ltb, le-ltb, div-add-mod', div-mul-add, mod_below, pow_pos, slice_get_within, BackingView, StorageView, Bytes, is_within, HeaderFields, known_byte, cluster_size, entries_per_cluster, rounded_up, Guest, guest_of, meaning_at, with_slot, PreparedMapping, IsPrepared, contents_in, known_in, nothing_given, state_in, Qcow2, Prepared, ClusterMapping, InPlace, Kept, New, new_data_in, new_data_by, pins_by, over_all, abstract_of, meaning, is_private, cluster_of, is_entered, IsReady, IsReadyWith, IsClusterMappingAt, IsPending, pending_in, IsExtended, MayGoOn, StandsBehind, StateInvariant, length_push, and_right}
+use Rattle.qcow2_image.proofs.Common.{slice_get, slice_set, fun_ext, cases_lt, cond-true, le-leb, lt-ltb, le-ltb, div-add-mod', div-mul-add, mod_below, pow_pos, slice_get_within, BackingView, StorageView, Bytes, is_within, HeaderFields, known_byte, cluster_size, entries_per_cluster, rounded_up, Guest, guest_of, meaning_at, with_slot, PreparedMapping, IsPrepared, contents_in, known_in, nothing_given, state_in, Qcow2, Prepared, ClusterMapping, InPlace, Kept, New, new_data_in, new_data_by, pins_by, over_all, abstract_of, meaning, is_private, cluster_of, is_entered, IsReady, IsReadyWith, IsClusterMappingAt, IsPending, pending_in, IsExtended, MayGoOn, StandsBehind, StateInvariant, length_push, and_right, Mappings, set_slot, Image, DataFile}
 use Rattle.qcow2_image.proofs.Call.Answered.{same_guest}
 use Rattle.qcow2_image.proofs.Call.Slots.{get_set, over_all_set, slot_set}
 use Rattle.qcow2_image.proofs.Call.Stepped.{Steps, stepped_sound, stepped_works}
 use Rattle.qcow2_image.proofs.Images.ClusterMappings.{private_is, private_shared}
 use Rattle.qcow2_image.proofs.Images.UngivenCovers.{all_stay}
 use Rattle.qcow2_image.proofs.Images.Moved.{format_stay}
+use Rattle.qcow2_image.specs.declared.mapping.Place.{Place}
 
 -- ---- one more after others
 
@@ -23,10 +24,12 @@ new_data_behind (Kept ∷ clusters) cluster_mapping c = new_data_behind clusters
 new_data_behind (New taken old_data ∷ clusters) cluster_mapping c = let rest = new_data_behind clusters cluster_mapping c in omega arith
 
 -- a cluster mapping is also valid in a longer mapping
-mapping_as : (h : HeaderFields) (known on_storage : Bytes) (p : Prepared) (l : ℕ) (like : Prepared) (i : ℕ) (cluster_mapping : ClusterMapping) → IsClusterMappingAt h known on_storage p i cluster_mapping → IsClusterMappingAt h known on_storage (record p { length = l; clusters = like.clusters }) i cluster_mapping
-mapping_as h known on_storage p l like i InPlace is = is
-mapping_as h known on_storage p l like i Kept is = record { first = is.first; place = is.place; nameable = is.nameable; entry = is.entry }
-mapping_as h known on_storage p l like i (New taken old_data) is = record { first = is.first; is = is.is; place = is.place; nameable = is.nameable; entry = is.entry; reach = is.reach; drops = is.drops }
+mapping_as : (h : HeaderFields) (place : Place) (known on_storage : Bytes) (p : Prepared) (l : ℕ) (like : Prepared) (i : ℕ) (cluster_mapping : ClusterMapping) → IsClusterMappingAt h place known on_storage p i cluster_mapping → IsClusterMappingAt h place known on_storage (record p { length = l; clusters = like.clusters }) i cluster_mapping
+mapping_as h place known on_storage p l like i InPlace is = is
+mapping_as h Image known on_storage p l like i Kept is = record { first = is.first; place = is.place; nameable = is.nameable; entry = is.entry }
+mapping_as h DataFile known on_storage p l like i Kept is = record { place = is.place; nameable = is.nameable; entry = is.entry; reach = is.reach }
+mapping_as h DataFile known on_storage p l like i (New taken old_data) is = absurd is
+mapping_as h Image known on_storage p l like i (New taken old_data) is = record { first = is.first; is = is.is; place = is.place; nameable = is.nameable; entry = is.entry; reach = is.reach; drops = is.drops }
 
 -- ---- what is announced
 
@@ -60,7 +63,7 @@ rounds_to size x m some above within =
     let e : x + size - 1 ≡ (m + 1) * size + (x - m * size - 1) = omega arith in
     ap (λ o. o / size * size) e ∙ ap (λ n. n * size) (div-mul-add (m + 1) size (x - m * size - 1) (omega arith)) ∙ q
 
-module _ {S F : Type 0} (view : S → StorageView) (backing : F → BackingView) (old mid : Qcow2 S F) (out : List (Option Prepared)) (k : ℕ) (p : Prepared) (at : slice_get out k ≡ Some (Some p)) (n table : ℕ) (overwrite : Bool) (may : MayGoOn old.file.header.fields n table p)
+module _ {S F : Type 0} (view : S → StorageView) (backing : F → BackingView) (old mid : Qcow2 S F) (out : Mappings) (k : ℕ) (p : Prepared) (at : slice_get out.slots k ≡ Some (Some p)) (n table : ℕ) (overwrite : Bool) (may : MayGoOn old.file.header.fields n table p)
     (cluster_mapping : ClusterMapping) (behind : StandsBehind view backing old mid out n overwrite p cluster_mapping) (like : Prepared) (items : like.clusters.items ≡ p.clusters.items ++ cluster_mapping ∷ []) where
   abbrev h : HeaderFields
   h = mid.file.header.fields
@@ -74,8 +77,8 @@ module _ {S F : Type 0} (view : S → StorageView) (backing : F → BackingView)
   abbrev q : Prepared
   q = record p { length = min n (p.length + cluster_size old.file.header.fields); clusters = like.clusters }
 
-  abbrev now : List (Option Prepared)
-  now = slice_set out k (Some q)
+  abbrev now : Mappings
+  now = set_slot out k (Some q)
 
   whole : p.guest % cluster_size h + p.length ≡ length p.clusters.items * cluster_size h
   whole = subst (λ (x : HeaderFields). p.guest % cluster_size x + p.length ≡ length p.clusters.items * cluster_size x) (sym behind.image_step.header) may.whole
@@ -83,11 +86,11 @@ module _ {S F : Type 0} (view : S → StorageView) (backing : F → BackingView)
   within : cluster_of h p % entries_per_cluster h + length p.clusters.items < entries_per_cluster h
   within = subst (λ (x : HeaderFields). cluster_of x p % entries_per_cluster x + length p.clusters.items < entries_per_cluster x) (sym behind.image_step.header) may.within
 
-  ready : IsReady view backing mid p
+  ready : IsReady view backing out.place mid p
   ready = behind.image_step.sound.ready k p at
 
-  pending : IsPending h (known_in view mid.file) (contents_in view mid.file) p table
-  pending = subst (IsReadyWith h (known_in view mid.file) (contents_in view mid.file) p) may.under ready.mapped
+  pending : IsPending h out.place (known_in view mid.file) (contents_in view mid.file) p table
+  pending = subst (IsReadyWith h out.place (known_in view mid.file) (contents_in view mid.file) p) may.under ready.mapped
 
   count : length like.clusters.items ≡ length p.clusters.items + 1
   count = ap (λ (l : List ClusterMapping). length l) items ∙ length_push p.clusters.items cluster_mapping
@@ -104,14 +107,14 @@ module _ {S F : Type 0} (view : S → StorageView) (backing : F → BackingView)
   its_mapping : (i : ℕ) (other : ClusterMapping) → slice_get like.clusters.items i ≡ Some other → (slice_get p.clusters.items i ≡ Some other) ⊎ ((i ≡ length p.clusters.items) × (other ≡ cluster_mapping))
   its_mapping i other there = get_behind p.clusters.items cluster_mapping other i (ap (λ (l : List ClusterMapping). slice_get l i) (sym items) ∙ there)
 
-  own_mapping : (i : ℕ) (other : ClusterMapping) → slice_get like.clusters.items i ≡ Some other → IsClusterMappingAt h (known_in view mid.file) (contents_in view mid.file) q i other
-  own_mapping i other there = mapping_as h (known_in view mid.file) (contents_in view mid.file) p (min n (p.length + cluster_size old.file.header.fields)) like i other
+  own_mapping : (i : ℕ) (other : ClusterMapping) → slice_get like.clusters.items i ≡ Some other → IsClusterMappingAt h out.place (known_in view mid.file) (contents_in view mid.file) q i other
+  own_mapping i other there = mapping_as h out.place (known_in view mid.file) (contents_in view mid.file) p (min n (p.length + cluster_size old.file.header.fields)) like i other
       (⊎_elim (λ (before : slice_get p.clusters.items i ≡ Some other). pending.each i other before)
       (λ (last : (i ≡ length p.clusters.items) × (other ≡ cluster_mapping)).
-      subst (λ j. IsClusterMappingAt h (known_in view mid.file) (contents_in view mid.file) p j other) (sym last.0) (subst (λ (x : ClusterMapping). IsClusterMappingAt h (known_in view mid.file) (contents_in view mid.file) p (length p.clusters.items) x) (sym last.1) behind.stands))
+      subst (λ j. IsClusterMappingAt h out.place (known_in view mid.file) (contents_in view mid.file) p j other) (sym last.0) (subst (λ (x : ClusterMapping). IsClusterMappingAt h out.place (known_in view mid.file) (contents_in view mid.file) p (length p.clusters.items) x) (sym last.1) behind.stands))
       (its_mapping i other there))
 
-  own_ready : IsPending h (known_in view mid.file) (contents_in view mid.file) q table
+  own_ready : IsPending h out.place (known_in view mid.file) (contents_in view mid.file) q table
   own_ready = record {
     some = let lt = longer in omega arith;
     begins = pending.begins;
@@ -123,11 +126,11 @@ module _ {S F : Type 0} (view : S → StorageView) (backing : F → BackingView)
     each = own_mapping;
   }
 
-  ready_now : (j : ℕ) (r : Prepared) → slice_get now j ≡ Some (Some r) → IsReady view backing mid r
+  ready_now : (j : ℕ) (r : Prepared) → slice_get now.slots j ≡ Some (Some r) → IsReady view backing out.place mid r
   ready_now j r there = ⊎_elim
-      (λ (e : Some r ≡ Some q). let same : r ≡ q = cc in subst (λ (x : Prepared). IsReady view backing mid x) (sym same)
-      (record { own = ready.own; mapped = subst (IsReadyWith h (known_in view mid.file) (contents_in view mid.file) q) (sym may.under) own_ready }))
-      (λ before. behind.image_step.sound.ready j r before) (get_set out k j (Some q) (Some r) there)
+      (λ (e : Some r ≡ Some q). let same : r ≡ q = cc in subst (λ (x : Prepared). IsReady view backing out.place mid x) (sym same)
+      (record { own = ready.own; mapped = subst (IsReadyWith h out.place (known_in view mid.file) (contents_in view mid.file) q) (sym may.under) own_ready }))
+      (λ before. behind.image_step.sound.ready j r before) (get_set out.slots k j (Some q) (Some r) there)
 
   same_pins : (c : ℕ) → over_all pins_by now c ≡ over_all pins_by out c
   same_pins c = let both : over_all pins_by now c + pins_by p c ≡ over_all pins_by out c + pins_by p c = over_all_set pins_by out k p q at c in omega arith
@@ -145,8 +148,7 @@ module _ {S F : Type 0} (view : S → StorageView) (backing : F → BackingView)
       file = behind.image_step.sound.file;
       l1_table = behind.image_step.sound.l1_table;
       reftable = behind.image_step.sound.reftable;
-      inside = behind.image_step.sound.inside;
-      alone = behind.image_step.sound.alone;
+      stands = behind.image_step.sound.stands;
       below = behind.image_step.sound.below;
       ready = ready_now;
       pinned = λ c. behind.image_step.sound.pinned c ∙ sym (same_pins c);
@@ -163,15 +165,15 @@ module _ {S F : Type 0} (view : S → StorageView) (backing : F → BackingView)
   }
 
   -- what a guest sees
-  seen_now : guest_of (abstract_of view backing mid now) ≡ with_slot (guest_of (abstract_of view backing old out)) k (Some (meaning view backing mid q))
+  seen_now : guest_of (abstract_of view backing mid now) ≡ with_slot (guest_of (abstract_of view backing old out)) k (Some (meaning view backing out.place mid q))
   seen_now =
-      same_guest _ (with_slot (guest_of (abstract_of view backing mid out)) k (Some (meaning view backing mid q))) refl (fun_ext (λ j. slot_set (meaning view backing mid) out k (Some q) (Some p) at j))
-      ∙ ap (λ (x : Guest). with_slot x k (Some (meaning view backing mid q))) behind.image_step.seen
+      same_guest _ (with_slot (guest_of (abstract_of view backing mid out)) k (Some (meaning view backing out.place mid q))) refl (fun_ext (λ j. slot_set (meaning view backing out.place mid) out.slots k (Some q) (Some p) at j))
+      ∙ ap (λ (x : Guest). with_slot x k (Some (meaning view backing out.place mid q))) behind.image_step.seen
 
-  means_same : meaning view backing mid p ≡ meaning view backing old p
+  means_same : meaning view backing out.place mid p ≡ meaning view backing out.place old p
   means_same =
-      let both : Some (meaning view backing mid p) ≡ Some (meaning view backing old p) =
-      sym (ap (meaning_at (meaning view backing mid)) at) ∙ ap (λ (x : Guest). x.slots k) behind.image_step.seen ∙ ap (meaning_at (meaning view backing old)) at in
+      let both : Some (meaning view backing out.place mid p) ≡ Some (meaning view backing out.place old p) =
+      sym (ap (meaning_at (meaning view backing out.place mid)) at) ∙ ap (λ (x : Guest). x.slots k) behind.image_step.seen ∙ ap (meaning_at (meaning view backing out.place old)) at in
       cc
 
   ends : rounded_up (cluster_size h) (p.guest + min n (p.length + cluster_size old.file.header.fields)) ≡ (cluster_of h p + length p.clusters.items) * cluster_size h + cluster_size h
@@ -183,7 +185,7 @@ module _ {S F : Type 0} (view : S → StorageView) (backing : F → BackingView)
       let le = no_longer in
       rounds_to (cluster_size h) (p.guest + min n (p.length + cluster_size old.file.header.fields)) (cluster_of h p + length p.clusters.items) some_size (omega arith) (omega arith)
 
-  module _ (was : IsPrepared (cluster_size old.file.header.fields) (guest_of (abstract_of view backing old out)).disk p.guest n overwrite (meaning view backing old p)) where
+  module _ (was : IsPrepared (cluster_size old.file.header.fields) (guest_of (abstract_of view backing old out)).disk p.guest n overwrite (meaning view backing out.place old p)) where
     inside : (o : ℕ) → IsTrue (is_private view backing mid q o) → (p.guest / cluster_size h * cluster_size h ≤ o) × (o < rounded_up (cluster_size h) (p.guest + min n (p.length + cluster_size old.file.header.fields)))
     inside o private =
         let shared = private_shared view backing mid q o private in
@@ -199,7 +201,7 @@ module _ {S F : Type 0} (view : S → StorageView) (backing : F → BackingView)
         let end = ends in
         (omega arith, omega arith)
 
-    old_values : (o : ℕ) → IsTrue (is_private view backing mid q o) → (overwrite && is_within p.guest (min n (min n (p.length + cluster_size old.file.header.fields))) o ≡ false) → (meaning view backing mid q).shown o ≡ (guest_of (abstract_of view backing old out)).disk.value o
+    old_values : (o : ℕ) → IsTrue (is_private view backing mid q o) → (overwrite && is_within p.guest (min n (min n (p.length + cluster_size old.file.header.fields))) o ≡ false) → (meaning view backing out.place mid q).shown o ≡ (guest_of (abstract_of view backing old out)).disk.value o
     old_values o private opened =
         let shared = private_shared view backing mid q o private in
         ⊎_elim
@@ -215,8 +217,8 @@ module _ {S F : Type 0} (view : S → StorageView) (backing : F → BackingView)
         (announced_less overwrite p.guest (min n (min n (p.length + cluster_size old.file.header.fields))) (min n (p.length + cluster_size h)) o (let same = size in omega arith) opened))
         (its_mapping shared.index shared.cluster_mapping shared.is)
 
-    still_prepared : IsPrepared (cluster_size old.file.header.fields) (guest_of (abstract_of view backing old out)).disk p.guest n overwrite (meaning view backing mid q)
-    still_prepared = subst (λ (x : HeaderFields). IsPrepared (cluster_size x) (guest_of (abstract_of view backing old out)).disk p.guest n overwrite (meaning view backing mid q)) behind.image_step.header (record {
+    still_prepared : IsPrepared (cluster_size old.file.header.fields) (guest_of (abstract_of view backing old out)).disk p.guest n overwrite (meaning view backing out.place mid q)
+    still_prepared = subst (λ (x : HeaderFields). IsPrepared (cluster_size x) (guest_of (abstract_of view backing old out)).disk p.guest n overwrite (meaning view backing out.place mid q)) behind.image_step.header (record {
       from = refl;
       some = λ any. let lt = longer in omega arith;
       most = λ past. absurd (omega (arith, past));

@@ -1,8 +1,10 @@
 -- What a prepare returns: the whole range in place, or a pinned mapping.
 use Rattle.std.proofs.Common.{◌≡◌, ◌⊎◌, ◌∷◌, ◌+◌, ◌-◌, ◌*◌, ◌/◌, ◌%◌, ◌<◌, ◌≤◌, ⊎_elim, inl, inr, List, ℕ, zero, suc, length, [], Bool, true, false, Option, Some, None, refl, sym, ap, ◌∙◌, subst, arith, is_some, Err, IfOk, IsTrue, Ok, Result}
-use Rattle.qcow2_image.proofs.Common.{common_steps, not, slice_get, slice_set, cases_lt, div-add-mod', div-mul-add, mod-mul-add, mod_below, pow_pos, BackingView, StorageView, Bytes, HeaderFields, Data, Zero, cluster_size, entries_per_cluster, rounded_down, rounded_up, with_tables_of, cover, IsDataAt, PreparedMapping, is_copied_data, DriverState, StateInvariant, named-is, own_data_of, Sizes-from, for_tables-top, IsTop-top, rest_of_table, ImageError, contents_in, known_in, state_in, Qcow2, Prepared, ClusterMapping, InPlace, Kept, New, IsExisting, PreparesRange, offset_of, MovesTables, CoversStay, IsAnswered, IsHeldAlone, IsKeptBy, IsTaken, IsWritableAt, BeginsInKept, Reaches, of_data, to_free, new_data_by, cluster_of, host_begin_of, is_entered, is_private, meaning, pending_in, IsPending, IsReadyWith, IsClusterMappingAt, ImageInvariant}
+use Rattle.qcow2_image.proofs.Common.{common_steps, not, slice_get, slice_set, cases_lt, div-add-mod', div-mul-add, mod-mul-add, mod_below, pow_pos, BackingView, StorageView, Bytes, HeaderFields, Data, Zero, cluster_size, entries_per_cluster, rounded_down, rounded_up, with_tables_of, cover, IsDataAt, PreparedMapping, is_copied_data, DriverState, StateInvariant, named-is, own_data_of, Sizes-from, for_tables-top, IsTop-top, rest_of_table, ImageError, contents_in, known_in, state_in, Qcow2, Prepared, ClusterMapping, InPlace, Kept, New, IsExisting, PreparesRange, offset_of, MovesTables, CoversStay, IsAnswered, IsHeldAlone, IsKeptBy, IsTaken, IsWritableAt, BeginsInKept, Reaches, of_data, to_free, new_data_by, cluster_of, host_begin_of, is_entered, is_private, meaning, pending_in, IsPending, IsReadyWith, IsClusterMappingAt, ImageInvariant, Mappings, set_slot, Image}
 use Rattle.qcow2_image.proofs.Lemmas.{get_set_same, byte_cluster, byte_place, byte_of_mapping, new_data_at, new_data_once, host_cluster, never_private, over_all_at}
 use Rattle.qcow2_image.proofs.Images.ClusterMappings.{private_is as private_mapping}
+use Rattle.qcow2_image.proofs.Images.Places.{inside_of, ready_inside}
+use Rattle.qcow2_image.specs.declared.mapping.Place.{Place}
 
 -- ---- the mappings of guest clusters stay the same, though tables may have moved
 module _ (h k : HeaderFields) (b c : Bytes) (same : CoversStay h c (with_tables_of h k) b) (offset : ℕ) where
@@ -15,7 +17,7 @@ module _ (h k : HeaderFields) (b c : Bytes) (same : CoversStay h c (with_tables_
   writable_before : (n place : ℕ) → IsWritableAt h c offset n place → IsWritableAt (with_tables_of h k) b offset n place
   writable_before n place is = (is.0, λ i lt. ((is.1 i lt).0, sym (same ((offset + i) / cluster_size h)) ∙ (is.1 i lt).1, (is.1 i lt).2))
 
-  taken_still : (n : ℕ) (out : List (Option Prepared)) → IsTaken (with_tables_of h k) b offset n out → IsTaken h c offset n out
+  taken_still : (n : ℕ) (out : Mappings) → IsTaken (with_tables_of h k) b offset n out → IsTaken h c offset n out
   taken_still n out is = record { place = is.place; other = is.other; is_out = is.is_out; keeps_table = is.keeps_table; same_table = is.same_table; never = λ host writable. is.never host (writable_before n host writable) }
 
   answered_still : (n : ℕ) (h' : HeaderFields) (now : Bytes) (p : Prepared) (m : PreparedMapping) → IsAnswered (with_tables_of h k) b offset n h' now p m → IsAnswered h c offset n h' now p m
@@ -62,9 +64,9 @@ in_range size offset n o some any from to =
     ]
 
 -- all of the range is written where it is
-pub answered_existing : {S F : Type 0} (view : S → StorageView) (backing : F → BackingView) (image : Qcow2 S F) (known : Bytes) (offset n : ℕ) (p : Prepared) (number : ℕ) → 0 < n → IsExisting p number offset n
-    → IsWritableAt image.file.header.fields known offset n p.offset → IsAnswered image.file.header.fields known offset n image.file.header.fields known p (meaning view backing image p)
-answered_existing view backing image known offset n p number any existing writable =
+pub answered_existing : {S F : Type 0} (view : S → StorageView) (backing : F → BackingView) (file : Place) (image : Qcow2 S F) (known : Bytes) (offset n : ℕ) (p : Prepared) (number : ℕ) → 0 < n → IsExisting p number offset n
+    → IsWritableAt image.file.header.fields known offset n p.offset → IsAnswered image.file.header.fields known offset n image.file.header.fields known p (meaning view backing file image p)
+answered_existing view backing file image known offset n p number any existing writable =
     let h = image.file.header.fields in
     let none : is_some p.table ≡ false = ap is_some existing.table in
     let never : (o : ℕ) → is_private view backing image p o ≡ false = never_private view backing image p existing.clusters in
@@ -96,7 +98,7 @@ module _ {S F : Type 0} (view : S → StorageView) (old mid : Qcow2 S F) (offset
   answered_before h' now p m is =
       answered_still old.file.header.fields mid.file.header.fields (known_in view mid.file) (known_in view old.file) same offset n h' now p m (subst (λ (x : HeaderFields). IsAnswered x (known_in view mid.file) offset n h' now p m) header is)
 
-  pub taken_before : (out : List (Option Prepared)) → IsTaken mid.file.header.fields (known_in view mid.file) offset n out → IsTaken old.file.header.fields (known_in view old.file) offset n out
+  pub taken_before : (out : Mappings) → IsTaken mid.file.header.fields (known_in view mid.file) offset n out → IsTaken old.file.header.fields (known_in view old.file) offset n out
   taken_before out is = taken_still old.file.header.fields mid.file.header.fields (known_in view mid.file) (known_in view old.file) same offset n out (subst (λ (x : HeaderFields). IsTaken x (known_in view mid.file) offset n out) header is)
 
   pub writable_as_before : (place : ℕ) → IsWritableAt mid.file.header.fields (known_in view mid.file) offset n place → IsWritableAt old.file.header.fields (known_in view old.file) offset n place
@@ -146,25 +148,25 @@ get_there (x ∷ xs) zero lt = (x, refl)
 get_there (x ∷ xs) (suc i) lt = get_there xs i (omega (arith, lt))
 
 -- what isn't copied data isn't in place
-entered_as : (h : HeaderFields) (known on_storage : Bytes) (p : Prepared) (i : ℕ) (cluster_mapping : ClusterMapping) → IsClusterMappingAt h known on_storage p i cluster_mapping → is_entered cluster_mapping ≡ not (is_copied_data (cover h known (cluster_of h p + i)))
+entered_as : (h : HeaderFields) (known on_storage : Bytes) (p : Prepared) (i : ℕ) (cluster_mapping : ClusterMapping) → IsClusterMappingAt h Image known on_storage p i cluster_mapping → is_entered cluster_mapping ≡ not (is_copied_data (cover h known (cluster_of h p + i)))
 entered_as h known on_storage p i InPlace at = ap (λ v. not (is_copied_data v)) (sym at)
 entered_as h known on_storage p i Kept at = ap (λ v. not (is_copied_data v)) (sym at.entry)
 entered_as h known on_storage p i (New taken old_data) at = ap not (sym at.entry)
 
-in_place_as : (h : HeaderFields) (known on_storage : Bytes) (p : Prepared) (i : ℕ) (cluster_mapping : ClusterMapping) → is_entered cluster_mapping ≡ false → IsClusterMappingAt h known on_storage p i cluster_mapping → cover h known (cluster_of h p + i) ≡ Data (host_begin_of h p i) true
+in_place_as : (h : HeaderFields) (known on_storage : Bytes) (p : Prepared) (i : ℕ) (cluster_mapping : ClusterMapping) → is_entered cluster_mapping ≡ false → IsClusterMappingAt h Image known on_storage p i cluster_mapping → cover h known (cluster_of h p + i) ≡ Data (host_begin_of h p i) true
 in_place_as h known on_storage p i InPlace isnt at = at
 in_place_as h known on_storage p i Kept isnt at = absurd (let e : true ≡ false = isnt in cc)
 in_place_as h known on_storage p i (New taken old_data) isnt at = absurd (let e : true ≡ false = isnt in cc)
 
-module _ {S F : Type 0} (view : S → StorageView) (backing : F → BackingView) (image : Qcow2 S F) (out : List (Option Prepared)) (k : ℕ) (p : Prepared) (at : slice_get out k ≡ Some (Some p)) (sound : ImageInvariant view backing (pending_in view backing image out) image out) (offset n : ℕ) (reaches : Reaches view image offset n p) where
+module _ {S F : Type 0} (view : S → StorageView) (backing : F → BackingView) (image : Qcow2 S F) (out : Mappings) (k : ℕ) (p : Prepared) (at : slice_get out.slots k ≡ Some (Some p)) (sound : ImageInvariant view backing (pending_in view backing image out) image out) (offset n : ℕ) (reaches : Reaches view image offset n p) where
   abbrev h : HeaderFields
   h = image.file.header.fields
 
   abbrev now : Bytes
   now = known_in view image.file
 
-  pending : IsPending h now (contents_in view image.file) p reaches.under.0
-  pending = subst (IsReadyWith h now (contents_in view image.file) p) reaches.under.1 (sound.ready k p at).mapped
+  pending : IsPending h Image now (contents_in view image.file) p reaches.under.0
+  pending = subst (IsReadyWith h Image now (contents_in view image.file) p) reaches.under.1 (ready_inside sound k p at)
 
   -- the cluster mapping of a byte of the mapping
   module _ (i : ℕ) (lt : i < p.length) where
@@ -184,7 +186,7 @@ module _ {S F : Type 0} (view : S → StorageView) (backing : F → BackingView)
         let same : (p.guest + 0 + i) % cluster_size h ≡ (p.guest + i) % cluster_size h = ap (λ o. o % cluster_size h) none in
         omega arith
 
-    stands : IsClusterMappingAt h now (contents_in view image.file) p index its.0
+    stands : IsClusterMappingAt h Image now (contents_in view image.file) p index its.0
     stands = pending.each index its.0 its.1
 
     private_is : is_private view backing image p (p.guest + i) ≡ is_entered its.0
@@ -203,7 +205,7 @@ module _ {S F : Type 0} (view : S → StorageView) (backing : F → BackingView)
     abbrev IsItsOwn : Type 0
     IsItsOwn = ((p.offset + i) % cluster_size h ≡ (p.guest + i) % cluster_size h) × (IsHeldAlone h now ((p.offset + i) / cluster_size h) ⊎ IsKeptBy h now ((p.guest + i) / cluster_size h) ((p.offset + i) / cluster_size h))
 
-    own_as : (cluster_mapping : ClusterMapping) → IsTrue (is_entered cluster_mapping) → slice_get p.clusters.items index ≡ Some cluster_mapping → IsClusterMappingAt h now (contents_in view image.file) p index cluster_mapping → IsItsOwn
+    own_as : (cluster_mapping : ClusterMapping) → IsTrue (is_entered cluster_mapping) → slice_get p.clusters.items index ≡ Some cluster_mapping → IsClusterMappingAt h Image now (contents_in view image.file) p index cluster_mapping → IsItsOwn
     own_as InPlace entered is it = absurd (let e : false ≡ true = entered in cc)
     own_as Kept entered is it = (
       rest_is it.first it.place,
@@ -214,14 +216,14 @@ module _ {S F : Type 0} (view : S → StorageView) (backing : F → BackingView)
         let more = new_data_at p.clusters.items index taken old_data is it.first in
         let all = over_all_at new_data_by out k p at it.first in (
           rest_is it.first it.place,
-          inl (subst (IsHeldAlone h now) (sym (cluster_is it.first it.place)) (new_data_alone (state_in view image.file (pending_in view backing image out)) sound.file.caches.kept.kept.crash_invariant sound.inside it.first (omega (arith, one, more, all)))),
+          inl (subst (IsHeldAlone h now) (sym (cluster_is it.first it.place)) (new_data_alone (state_in view image.file (pending_in view backing image out)) sound.file.caches.kept.kept.crash_invariant (inside_of sound) it.first (omega (arith, one, more, all)))),
         )
 
   -- how far its L2 table reaches
   reach_is : rest_of_table h p.guest ≡ (entries_per_cluster h - cluster_of h p % entries_per_cluster h) * cluster_size h - p.guest % cluster_size h
   reach_is = rest_as (cluster_size h) (entries_per_cluster h) p.guest (pow_pos h.cluster_bits) (entries_some (state_in view image.file (pending_in view backing image out)) sound.file.caches.kept.kept.crash_invariant)
 
-  pub answered_out : ((place : ℕ) → IsWritableAt h now offset n place → ⊥) → IsAnswered h now p.guest n h now p (meaning view backing image p)
+  pub answered_out : ((place : ℕ) → IsWritableAt h now offset n place → ⊥) → IsAnswered h now p.guest n h now p (meaning view backing out.place image p)
   answered_out never =
       let some : is_some p.table ≡ true = ap is_some reaches.under.1 in
       let guest = reaches.guest in
@@ -251,14 +253,14 @@ module _ {S F : Type 0} (view : S → StorageView) (backing : F → BackingView)
       }
 
 -- a mapping that was made ready, by what was known before
-pub answered_range : {S F : Type 0} (view : S → StorageView) (backing : F → BackingView) (old new : Qcow2 S F) (out : List (Option Prepared)) (k offset n : ℕ) (overwrite : Bool) (free : slice_get out k ≡ Some None) → ((place : ℕ) → IsWritableAt old.file.header.fields (known_in view old.file) offset n place → ⊥)
+pub answered_range : {S F : Type 0} (view : S → StorageView) (backing : F → BackingView) (old new : Qcow2 S F) (out : Mappings) (k offset n : ℕ) (overwrite : Bool) (free : slice_get out.slots k ≡ Some None) → ((place : ℕ) → IsWritableAt old.file.header.fields (known_in view old.file) offset n place → ⊥)
     → (r : Result Prepared ImageError) → PreparesRange view backing old new out offset n overwrite r → IfOk r (Reaches view new offset n)
-    → IfOk r (λ p. IsAnswered old.file.header.fields (known_in view old.file) offset n new.file.header.fields (known_in view new.file) p (meaning view backing new p))
+    → IfOk r (λ p. IsAnswered old.file.header.fields (known_in view old.file) offset n new.file.header.fields (known_in view new.file) p (meaning view backing out.place new p))
 answered_range view backing old new out k offset n overwrite free never (Err e) readies reaches = tt
 answered_range view backing old new out k offset n overwrite free never (Ok p) readies reaches =
     let is = readies k free in
     let never_now : (place : ℕ) → IsWritableAt new.file.header.fields (known_in view new.file) offset n place → ⊥ = λ place at.
     never place (writable_as_before view old new offset n is.header is.covers place at) in
-    answered_before view old new offset n is.header is.covers new.file.header.fields (known_in view new.file) p (meaning view backing new p)
-    (subst (λ o. IsAnswered new.file.header.fields (known_in view new.file) o n new.file.header.fields (known_in view new.file) p (meaning view backing new p)) reaches.guest
-    (answered_out view backing new (slice_set out k (Some p)) k p (get_set_same out k (Some p) None free) is.sound offset n reaches never_now))
+    answered_before view old new offset n is.header is.covers new.file.header.fields (known_in view new.file) p (meaning view backing out.place new p)
+    (subst (λ o. IsAnswered new.file.header.fields (known_in view new.file) o n new.file.header.fields (known_in view new.file) p (meaning view backing out.place new p)) reaches.guest
+    (answered_out view backing new (set_slot out k (Some p)) k p (get_set_same out.slots k (Some p) None free) is.sound offset n reaches never_now))

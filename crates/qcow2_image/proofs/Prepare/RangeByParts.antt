@@ -1,8 +1,9 @@
 -- A range is prepared part by part, and released if a part is refused.
 use Rattle.std.proofs.Common.{◌≡◌, ◌++◌, ◌+◌, ◌-◌, ◌*◌, ◌/◌, ◌%◌, ◌<◌, ◌≤◌, ◌∷◌, ◌==◌, ◌||◌, inl, inr, ℕ, suc, Bool, true, false, List, length, [], Option, Some, None, refl, sym, ap, ◌∙◌, subst, arith, min}
-use Rattle.qcow2_image.proofs.Common.{slice_get, slice_set, vec_capacity, common_steps, div-add-mod', mod-mul-add, mod_below, pow_pos, fun_ext, cases_eq, cases_lt, cond-true, cond-false, eq-eqb, ne_eqb, BackingView, StorageView, HeaderFields, cluster_size, entries_per_cluster, Guest, guest_of, meaning_at, EffectOnSound, with_slot, Disk, rest_of_table, PreparedMapping, IsPrepared, KeepsFormat, works_then, stops_as, contents_in, known_in, state_in, KeepsHeader, header_format, header_then, ImageError, Qcow2, Prepared, ClusterMapping, ImageStays, Discards, IsReadied, RefusedCall, InternalCall, cluster_of, pending_in, abstract_of, meaning, IsPending, IsReadyWith, ImageInvariant, BreaksOff, Ends, HasRoomForRange, IsExtended, IsLongerMapping, IsNext, EndsWithCluster, ReleasesOneMapping, MayGoOn, MovesTables, CoversStay, length_push}
-use Rattle.qcow2_image.proofs.Lemmas.{same_guest, get_set_same, set_same, set_set, file_step_then, format_file_step, stay_then, format_stay, free_places}
+use Rattle.qcow2_image.proofs.Common.{slice_get, slice_set, vec_capacity, common_steps, div-add-mod', mod-mul-add, mod_below, pow_pos, fun_ext, cases_eq, cases_lt, cond-true, cond-false, eq-eqb, ne_eqb, BackingView, StorageView, HeaderFields, cluster_size, entries_per_cluster, Guest, guest_of, meaning_at, EffectOnSound, with_slot, Disk, rest_of_table, PreparedMapping, IsPrepared, KeepsFormat, works_then, stops_as, contents_in, known_in, state_in, KeepsHeader, header_format, header_then, ImageError, Qcow2, Prepared, ClusterMapping, ImageStays, Discards, IsReadied, RefusedCall, InternalCall, cluster_of, pending_in, abstract_of, meaning, IsPending, IsReadyWith, ImageInvariant, BreaksOff, Ends, HasRoomForRange, IsExtended, IsLongerMapping, IsNext, EndsWithCluster, ReleasesOneMapping, MayGoOn, MovesTables, CoversStay, length_push, Mappings, set_slot}
+use Rattle.qcow2_image.proofs.Lemmas.{same_guest, get_set_same, set_same, set_slot_same, set_set, set_slot_set, file_step_then, format_file_step, stay_then, format_stay, free_places}
 use Rattle.qcow2_image.proofs.Prepare.PreparedAnswers.{entries_some, rest_as}
+use Rattle.qcow2_image.proofs.Images.Places.{put_first}
 
 -- ---- slots
 
@@ -25,22 +26,22 @@ first_on : (l : List ClusterMapping) (s cluster_mapping : ClusterMapping) → sl
 first_on [] s cluster_mapping at = absurd (cc at)
 first_on (x ∷ l) s cluster_mapping at = at
 
-module _ {S F : Type 0} (view : S → StorageView) (backing : F → BackingView) (start mid new : Qcow2 S F) (out : List (Option Prepared)) (k n : ℕ) (overwrite : Bool) (p : Prepared) (free : slice_get out k ≡ Some None) (first : IsReadied view backing start mid out k p.guest n overwrite p) where
-  abbrev out1 : List (Option Prepared)
-  out1 = slice_set out k (Some p)
+module _ {S F : Type 0} (view : S → StorageView) (backing : F → BackingView) (start mid new : Qcow2 S F) (out : Mappings) (k n : ℕ) (overwrite : Bool) (p : Prepared) (free : slice_get out.slots k ≡ Some None) (first : IsReadied view backing start mid out k p.guest n overwrite p) where
+  abbrev out1 : Mappings
+  out1 = set_slot out k (Some p)
 
   -- it is longer
   pub readied_on : (q : Prepared) → q.guest ≡ p.guest → IsExtended view backing mid new out1 k n overwrite p q → IsReadied view backing start new out k q.guest n overwrite q
   readied_on q guest is =
-      let end : slice_set (slice_set out k (Some p)) k (Some q) ≡ slice_set out k (Some q) = set_set out k (Some p) (Some q) in
-      let m = meaning view backing new q in
+      let end : set_slot (set_slot out k (Some p)) k (Some q) ≡ set_slot out k (Some q) = set_slot_set out k (Some p) (Some q) in
+      let m = meaning view backing out.place new q in
       let disk : (guest_of (abstract_of view backing mid out1)).disk ≡ (guest_of (abstract_of view backing start out)).disk = ap (λ (x : Guest). x.disk) first.is in
       let size : cluster_size mid.file.header.fields ≡ cluster_size start.file.header.fields = ap (λ (x : HeaderFields). cluster_size x) first.header in
-      let was : IsPrepared (cluster_size mid.file.header.fields) (guest_of (abstract_of view backing mid out1)).disk p.guest n overwrite (meaning view backing mid p) =
-      subst (λ s. IsPrepared s (guest_of (abstract_of view backing mid out1)).disk p.guest n overwrite (meaning view backing mid p)) (sym size)
-      (subst (λ (x : Disk). IsPrepared (cluster_size start.file.header.fields) x p.guest n overwrite (meaning view backing mid p)) (sym disk) first.prepared) in
+      let was : IsPrepared (cluster_size mid.file.header.fields) (guest_of (abstract_of view backing mid out1)).disk p.guest n overwrite (meaning view backing out.place mid p) =
+      subst (λ s. IsPrepared s (guest_of (abstract_of view backing mid out1)).disk p.guest n overwrite (meaning view backing out.place mid p)) (sym size)
+      (subst (λ (x : Disk). IsPrepared (cluster_size start.file.header.fields) x p.guest n overwrite (meaning view backing out.place mid p)) (sym disk) first.prepared) in
       record {
-        works = works_then (abstract_of view backing start out) (abstract_of view backing mid out1) (abstract_of view backing new (slice_set out k (Some q))) [] [] first.sound first.works
+        works = works_then (abstract_of view backing start out) (abstract_of view backing mid out1) (abstract_of view backing new (set_slot out k (Some q))) [] [] first.sound first.works
             (subst (λ l. EffectOnSound (abstract_of view backing mid out1) (abstract_of view backing new l) [] []) end is.works);
         sound = subst (λ l. ImageInvariant view backing (pending_in view backing new l) new l) end is.sound;
         header = file_step_then start.file.header.fields mid.file.header.fields new.file.header.fields first.header (format_file_step mid.file.header.fields new.file.header.fields is.header);
@@ -49,16 +50,16 @@ module _ {S F : Type 0} (view : S → StorageView) (backing : F → BackingView)
         prepared = subst (λ o. IsPrepared (cluster_size start.file.header.fields) (guest_of (abstract_of view backing start out)).disk o n overwrite m) (sym guest)
             (subst (λ (x : Disk). IsPrepared (cluster_size start.file.header.fields) x p.guest n overwrite m) disk
             (subst (λ s. IsPrepared s ((guest_of (abstract_of view backing mid out1)).disk) p.guest n overwrite m) size (is.prepared was)));
-        is = ap (λ l. guest_of (abstract_of view backing new l)) (sym end) ∙ is.is ∙ ap (λ (x : Guest). with_slot x k (Some m)) first.is ∙ slot_twice (guest_of (abstract_of view backing start out)) k (Some (meaning view backing mid p)) (Some m);
+        is = ap (λ l. guest_of (abstract_of view backing new l)) (sym end) ∙ is.is ∙ ap (λ (x : Guest). with_slot x k (Some m)) first.is ∙ slot_twice (guest_of (abstract_of view backing start out)) k (Some (meaning view backing out.place mid p)) (Some m);
       }
 
   -- it is as it was
   pub readied_still : InternalCall view backing mid new out1 → IsReadied view backing start new out k p.guest n overwrite p
   readied_still still =
-      let at = get_set_same out k (Some p) None free in
-      let both : Some (meaning view backing new p) ≡ Some (meaning view backing mid p) =
-      sym (ap (meaning_at (meaning view backing new)) at) ∙ ap (λ (x : Guest). x.slots k) still.same ∙ ap (meaning_at (meaning view backing mid)) at in
-      let means : meaning view backing new p ≡ meaning view backing mid p = cc in
+      let at = get_set_same out.slots k (Some p) None free in
+      let both : Some (meaning view backing out.place new p) ≡ Some (meaning view backing out.place mid p) =
+      sym (ap (meaning_at (meaning view backing out.place new)) at) ∙ ap (λ (x : Guest). x.slots k) still.same ∙ ap (meaning_at (meaning view backing out.place mid)) at in
+      let means : meaning view backing out.place new p ≡ meaning view backing out.place mid p = cc in
       record {
         works = works_then (abstract_of view backing start out) (abstract_of view backing mid out1) (abstract_of view backing new out1) [] [] first.sound first.works still.works;
         sound = still.sound;
@@ -73,12 +74,12 @@ module _ {S F : Type 0} (view : S → StorageView) (backing : F → BackingView)
     abbrev a : Guest
     a = guest_of (abstract_of view backing start out)
 
-    same_out : slice_set (slice_set out k (Some p)) k None ≡ out
-    same_out = set_set out k (Some p) None ∙ set_same out k None free
+    same_out : set_slot (set_slot out k (Some p)) k None ≡ out
+    same_out = set_slot_set out k (Some p) None ∙ set_slot_same out k None free
 
     release_prepared_still : InternalCall view backing mid new out1 → InternalCall view backing start end out
     release_prepared_still still =
-        let done = gone out1 k (get_set_same out k (Some p) None free) in
+        let done = gone out1 k (get_set_same out.slots k (Some p) None free) in
         let answer = done.answer still.sound in
         let header : end.file.header.fields ≡ new.file.header.fields = ap (λ (m : Qcow2 S F). m.file.header.fields) lets.rest in
         record {
@@ -86,8 +87,8 @@ module _ {S F : Type 0} (view : S → StorageView) (backing : F → BackingView)
               (works_then (abstract_of view backing mid out1) (abstract_of view backing new out1) (abstract_of view backing end out) [] [] still.sound still.works
               (subst (λ l. EffectOnSound (abstract_of view backing new out1) (abstract_of view backing end l) [] []) same_out (done.acts.works still.sound)));
           sound = subst (λ l. ImageInvariant view backing (pending_in view backing end l) end l) same_out answer.0;
-          same = ap (λ l. guest_of (abstract_of view backing end l)) (sym same_out) ∙ answer.1 ∙ ap (λ (x : Guest). with_slot x k None) (still.same ∙ first.is) ∙ slot_twice a k (Some (meaning view backing mid p)) None
-              ∙ slot_back a k None (ap (meaning_at (meaning view backing start)) free);
+          same = ap (λ l. guest_of (abstract_of view backing end l)) (sym same_out) ∙ answer.1 ∙ ap (λ (x : Guest). with_slot x k None) (still.same ∙ first.is) ∙ slot_twice a k (Some (meaning view backing out.place mid p)) None
+              ∙ slot_back a k None (ap (meaning_at (meaning view backing out.place start)) free);
           header = subst (λ x. MovesTables start.file.header.fields x) (sym header) (file_step_then start.file.header.fields mid.file.header.fields new.file.header.fields first.header still.header);
           covers = subst (λ x. CoversStay start.file.header.fields (known_in view start.file) x (known_in view end.file)) (sym header) (subst (λ b. CoversStay start.file.header.fields (known_in view start.file) new.file.header.fields b) (sym lets.known)
               (stay_then start.file.header.fields mid.file.header.fields new.file.header.fields (known_in view start.file) (known_in view mid.file) (known_in view new.file) first.covers still.covers));
@@ -115,7 +116,7 @@ module _ {S F : Type 0} (view : S → StorageView) (backing : F → BackingView)
     })
 
 -- so it is after any part
-pub release_prepared_broken : {S F : Type 0} (view : S → StorageView) (backing : F → BackingView) (start new end : Qcow2 S F) (out : List (Option Prepared)) (k n : ℕ) (overwrite : Bool) (q : Prepared) (e : ImageError) → slice_get out k ≡ Some None → ReleasesOneMapping view new end → Discards view backing new end q
+pub release_prepared_broken : {S F : Type 0} (view : S → StorageView) (backing : F → BackingView) (start new end : Qcow2 S F) (out : Mappings) (k n : ℕ) (overwrite : Bool) (q : Prepared) (e : ImageError) → slice_get out.slots k ≡ Some None → ReleasesOneMapping view new end → Discards view backing new end q
     → BreaksOff view backing start new out k n overwrite q e → RefusedCall view backing start end out e
 release_prepared_broken view backing start new end out k n overwrite q e free lets gone interruption = release_prepared_refused view backing start interruption.mid new out k n overwrite q free interruption.readied end e lets gone interruption.refused
 
@@ -127,7 +128,7 @@ pub record IsSoFar {S F : Type 0} (view : S → StorageView) (backing : F → Ba
   pub header : KeepsHeader old.file.header now.file.header
   pub longer : IsLongerMapping old.file.header.fields n p q
   pub room : p.guest % cluster_size old.file.header.fields + end < vec_capacity q.clusters * cluster_size old.file.header.fields
-  pub image_step : (start : Qcow2 S F) (out : List (Option Prepared)) (k : ℕ) → slice_get out k ≡ Some None → p.table ≡ Some table → IsReadied view backing start old out k p.guest n overwrite p → IsReadied view backing start now out k q.guest n overwrite q
+  pub image_step : (start : Qcow2 S F) (out : Mappings) (k : ℕ) → slice_get out.slots k ≡ Some None → p.table ≡ Some table → IsReadied view backing start old out k p.guest n overwrite p → IsReadied view backing start now out k q.guest n overwrite q
 
 pos_mul : (a b : ℕ) → 0 < a → 0 < b → 0 < a * b
 pos_mul a b some any =
@@ -173,9 +174,9 @@ module _ {S F : Type 0} (view : S → StorageView) (backing : F → BackingView)
       whole = so.longer.whole (omega arith)
 
       -- it may go on
-      pub may_go_on : (start : Qcow2 S F) (out : List (Option Prepared)) (k : ℕ) → p.table ≡ Some table → IsReadied view backing start old out k p.guest n overwrite p → MayGoOn now.file.header.fields n table q
+      pub may_go_on : (start : Qcow2 S F) (out : Mappings) (k : ℕ) → p.table ≡ Some table → IsReadied view backing start old out k p.guest n overwrite p → MayGoOn now.file.header.fields n table q
       may_go_on start out k under is =
-          let any = entries_some (state_in view old.file (pending_in view backing old (slice_set out k (Some p)))) is.sound.file.caches.kept.kept.crash_invariant in
+          let any = entries_some (state_in view old.file (pending_in view backing old (set_slot out k (Some p)))) is.sound.file.caches.kept.kept.crash_invariant in
           let reach = rest_as (cluster_size h) (entries_per_cluster h) p.guest (pow_pos h.cluster_bits) any in
           let w = whole in
           let g = ap (λ g. g % cluster_size h) so.longer.guest in
@@ -190,7 +191,7 @@ module _ {S F : Type 0} (view : S → StorageView) (backing : F → BackingView)
 
       -- and it is longer
       module _ (new : Qcow2 S F) (r : Prepared) (stays : ImageStays now new) (header : KeepsHeader now.file.header new.file.header) (next : IsNext now.file.header.fields n q r) (same : vec_capacity r.clusters ≡ vec_capacity q.clusters)
-          (image_step : (out : List (Option Prepared)) (k : ℕ) → slice_get out k ≡ Some (Some q) → MayGoOn now.file.header.fields n table q → ImageInvariant view backing (pending_in view backing now out) now out → IsExtended view backing now new out k n overwrite q r) where
+          (image_step : (out : Mappings) (k : ℕ) → slice_get out.slots k ≡ Some (Some q) → MayGoOn now.file.header.fields n table q → ImageInvariant view backing (pending_in view backing now out) now out → IsExtended view backing now new out k n overwrite q r) where
         length_is : r.length ≡ min n (q.length + cluster_size h)
         length_is = ap (λ (x : Prepared). x.length) next.rest ∙ ap (λ s. min n (q.length + s)) size
 
@@ -227,12 +228,12 @@ module _ {S F : Type 0} (view : S → StorageView) (backing : F → BackingView)
           room = subst (λ m. p.guest % cluster_size h + end < m * cluster_size h) (sym same) so.room;
           image_step = λ start out k free under is.
               let before = so.image_step start out k free under is in
-              readied_on view backing start now new out k n overwrite q free before r r_guest (image_step (slice_set out k (Some q)) k (get_set_same out k (Some q) None free) (may_go_on start out k under is) before.sound);
+              readied_on view backing start now new out k n overwrite q free before r r_guest (image_step (set_slot out k (Some q)) k (get_set_same out.slots k (Some q) None free) (may_go_on start out k under is) before.sound);
         }
 
       -- or nothing can come after it
-      pub so_far_ends : (new : Qcow2 S F) (start : Qcow2 S F) (out : List (Option Prepared)) (k : ℕ) → slice_get out k ≡ Some None → p.table ≡ Some table → IsReadied view backing start old out k p.guest n overwrite p
-          → (MayGoOn now.file.header.fields n table q → ImageInvariant view backing (pending_in view backing now (slice_set out k (Some q))) now (slice_set out k (Some q)) → InternalCall view backing now new (slice_set out k (Some q)) × Ends view new q)
+      pub so_far_ends : (new : Qcow2 S F) (start : Qcow2 S F) (out : Mappings) (k : ℕ) → slice_get out.slots k ≡ Some None → p.table ≡ Some table → IsReadied view backing start old out k p.guest n overwrite p
+          → (MayGoOn now.file.header.fields n table q → ImageInvariant view backing (pending_in view backing now (set_slot out k (Some q))) now (set_slot out k (Some q)) → InternalCall view backing now new (set_slot out k (Some q)) × Ends view new q)
           → IsReadied view backing start new out k q.guest n overwrite q × (q.length < n → Ends view new q)
       so_far_ends new start out k free under is found =
           let before = so.image_step start out k free under is in
@@ -240,7 +241,7 @@ module _ {S F : Type 0} (view : S → StorageView) (backing : F → BackingView)
           (readied_still view backing start now new out k n overwrite q free before both.0, λ short. both.1)
 
     -- it reaches to the end of its range, or of its table
-    module _ (start : Qcow2 S F) (out : List (Option Prepared)) (k : ℕ) (free : slice_get out k ≡ Some None) (under : p.table ≡ Some table) (is : IsReadied view backing start old out k p.guest n overwrite p) (all : end ≤ q.length) where
+    module _ (start : Qcow2 S F) (out : Mappings) (k : ℕ) (free : slice_get out.slots k ≡ Some None) (under : p.table ≡ Some table) (is : IsReadied view backing start old out k p.guest n overwrite p) (all : end ≤ q.length) where
       before : IsReadied view backing start now out k q.guest n overwrite q
       before = so.image_step start out k free under is
 
@@ -250,8 +251,8 @@ module _ {S F : Type 0} (view : S → StorageView) (backing : F → BackingView)
       reaches_end : q.length < n → Ends view now q
       reaches_end short =
           let sound = before.sound in
-          let pending : IsPending hn (known_in view now.file) (contents_in view now.file) q table = subst (IsReadyWith hn (known_in view now.file) (contents_in view now.file) q) (so.longer.under ∙ under) (sound.ready k q (get_set_same out k (Some q) None free)).mapped in
-          let any = entries_some (state_in view now.file (pending_in view backing now (slice_set out k (Some q)))) sound.file.caches.kept.kept.crash_invariant in
+          let pending : IsPending hn out.place (known_in view now.file) (contents_in view now.file) q table = subst (IsReadyWith hn out.place (known_in view now.file) (contents_in view now.file) q) (so.longer.under ∙ under) (sound.ready k q (get_set_same out.slots k (Some q) None free)).mapped in
+          let any = entries_some (state_in view now.file (pending_in view backing now (set_slot out k (Some q)))) sound.file.caches.kept.kept.crash_invariant in
           let reach = rest_as (cluster_size hn) (entries_per_cluster hn) q.guest (pow_pos hn.cluster_bits) any in
           let rest : rest_of_table h p.guest ≡ rest_of_table hn q.guest = subst (λ (x : HeaderFields). rest_of_table h p.guest ≡ rest_of_table x q.guest) (sym format) (ap (rest_of_table h) (sym so.longer.guest)) in
           let few = pending.within in
@@ -279,23 +280,23 @@ module _ {S F : Type 0} (view : S → StorageView) (backing : F → BackingView)
 -- ---- a place more
 
 -- what was refused while there was a free place was refused without it
-module _ {S F : Type 0} (view : S → StorageView) (backing : F → BackingView) (out : List (Option Prepared)) (old new : Qcow2 S F) where
-  works_free : (image : Qcow2 S F) → EffectOnSound (abstract_of view backing old (None ∷ out)) (abstract_of view backing image (None ∷ out)) [] [] → EffectOnSound (abstract_of view backing old out) (abstract_of view backing image out) [] []
+module _ {S F : Type 0} (view : S → StorageView) (backing : F → BackingView) (out : Mappings) (old new : Qcow2 S F) where
+  works_free : (image : Qcow2 S F) → EffectOnSound (abstract_of view backing old (put_first None out)) (abstract_of view backing image (put_first None out)) [] [] → EffectOnSound (abstract_of view backing old out) (abstract_of view backing image out) [] []
   works_free image w =
-      let free = free_places view backing in
+      let free = free_places view backing out.place in
       record {
         setting = w.setting;
-        surplus = λ now. sym (free.surplus image [] out) ∙ w.surplus (free.free image [] out now) ∙ free.surplus old [] out;
-        beside = λ now. w.beside (free.free image [] out now);
+        surplus = λ now. sym (free.surplus image [] out.slots) ∙ w.surplus (free.free image [] out.slots now) ∙ free.surplus old [] out.slots;
+        beside = λ now. w.beside (free.free image [] out.slots now);
         leaks = w.leaks;
         stops = λ m starts.
-            stops_as (abstract_of view backing old (None ∷ out)) (abstract_of view backing image (None ∷ out)) (abstract_of view backing old out) (abstract_of view backing image out) [] [] refl refl refl (λ now. (free.free image [] out now, refl)) m (w.stops m starts);
+            stops_as (abstract_of view backing old (put_first None out)) (abstract_of view backing image (put_first None out)) (abstract_of view backing old out) (abstract_of view backing image out) [] [] refl refl refl (λ now. (free.free image [] out.slots now, refl)) m (w.stops m starts);
       }
 
-  pub refused_free : (e : ImageError) → RefusedCall view backing old new (None ∷ out) e → RefusedCall view backing old new out e
+  pub refused_free : (e : ImageError) → RefusedCall view backing old new (put_first None out) e → RefusedCall view backing old new out e
   refused_free e (inl still) = inl (record {
     works = works_free new still.works;
-    sound = (free_places view backing).left new [] out still.sound;
+    sound = (free_places view backing out.place).left new [] out.slots still.sound;
     same = same_guest (guest_of (abstract_of view backing new out)) (guest_of (abstract_of view backing old out)) (ap (λ (x : Guest). x.disk) still.same) (fun_ext (λ j. ap (λ (x : Guest). x.slots (suc j)) still.same));
     header = still.header;
     covers = still.covers;

@@ -1,6 +1,7 @@
 -- Why a range is refused 9 (table prepared).
 use Rattle.std.proofs.Common.{◌≡◌, ◌/◌, ◌%◌, ◌<◌, ◌∷◌, ◌==◌, inl, inr, ℕ, suc, Bool, true, false, List, [], Option, Some, None, refl, sym, ap, ◌∙◌, subst, arith, is_some}
-use Rattle.qcow2_image.proofs.Common.{slice_get, cases_eq, cases_lt, eqb-true, BackingView, StorageView, Bytes, one_if, HeaderFields, cluster_size, entries_per_cluster, host_offset, table_at, table_once, shares, two_tables, own_cluster, Pending, l2_pins, order_of, IsEntryAt, contents_in, known_in, Qcow2, Prepared, l1_index_of, IsPlaceOf, IsTaken, HoldsTable, over_all, pins_by, pins_of, IsPending, IsReadyWith, ImageInvariant}
+use Rattle.qcow2_image.proofs.Common.{slice_get, cases_eq, cases_lt, eqb-true, BackingView, StorageView, Bytes, one_if, HeaderFields, cluster_size, entries_per_cluster, host_offset, table_at, table_once, shares, two_tables, own_cluster, Pending, l2_pins, order_of, IsEntryAt, contents_in, known_in, Qcow2, Prepared, l1_index_of, IsPlaceOf, IsTaken, HoldsTable, over_all, pins_by, pins_of, IsPending, IsReadyWith, ImageInvariant, Mappings, over_slots}
+use Rattle.qcow2_image.specs.declared.mapping.Place.{Place}
 
 -- a pin that is counted is one of a mapping
 pinned_by : (pinned : Option ℕ) (table : ℕ) → 0 < pins_of pinned table → pinned ≡ Some table
@@ -11,21 +12,23 @@ pinned_by (Some t) table some = by_test (t == table) refl some where
   by_test false is none = absurd (omega arith)
 
 -- a mapping that is out and keeps the table
-pub record Keeper (out : List (Option Prepared)) (table : ℕ) : Type 0 where
+pub record Keeper (out : Mappings) (table : ℕ) : Type 0 where
   pub place : ℕ
   pub other : Prepared
-  pub is_out : slice_get out place ≡ Some (Some other)
+  pub is_out : slice_get out.slots place ≡ Some (Some other)
   pub keeps : other.table ≡ Some table
 
-pub keeper : (out : List (Option Prepared)) (table : ℕ) → 0 < over_all pins_by out table → Keeper out table
-keeper [] table some = absurd (omega arith)
-keeper (None ∷ out) table some = let rest = keeper out table (omega (arith, some)) in record { place = suc rest.place; other = rest.other; is_out = rest.is_out; keeps = rest.keeps }
-keeper (Some q ∷ out) table some = elim (cases_lt 0 (pins_by q table)) [
-  | inl here ↦ record { place = 0; other = q; is_out = refl; keeps = pinned_by q.table table here }
-  | inr none ↦ let rest = keeper out table (omega arith) in record { place = suc rest.place; other = rest.other; is_out = rest.is_out; keeps = rest.keeps }
-]
+pub keeper : (out : Mappings) (table : ℕ) → 0 < over_all pins_by out table → Keeper out table
+keeper out table some = at out.place out.slots some where
+  at : (place : Place) (slots : List (Option Prepared)) → 0 < over_slots pins_by slots table → Keeper (record { place = place; slots = slots }) table
+  at place [] some = absurd (omega arith)
+  at place (None ∷ slots) some = let rest = at place slots (omega (arith, some)) in record { place = suc rest.place; other = rest.other; is_out = rest.is_out; keeps = rest.keeps }
+  at place (Some q ∷ slots) some = elim (cases_lt 0 (pins_by q table)) [
+    | inl here ↦ record { place = 0; other = q; is_out = refl; keeps = pinned_by q.table table here }
+    | inr none ↦ let rest = at place slots (omega arith) in record { place = suc rest.place; other = rest.other; is_out = rest.is_out; keeps = rest.keeps }
+  ]
 
-module _ {S F : Type 0} (view : S → StorageView) (backing : F → BackingView) (image : Qcow2 S F) (p : Pending) (out : List (Option Prepared)) (sound : ImageInvariant view backing p image out) where
+module _ {S F : Type 0} (view : S → StorageView) (backing : F → BackingView) (image : Qcow2 S F) (p : Pending) (out : Mappings) (sound : ImageInvariant view backing p image out) where
   abbrev h : HeaderFields
   h = image.file.header.fields
 
@@ -48,10 +51,10 @@ module _ {S F : Type 0} (view : S → StorageView) (backing : F → BackingView)
 
   -- a mapping that is out keeps the table that is held for an offset
   module _ (offset table : ℕ) (holds : HoldsTable view backing image offset table) where
-    pub in_same : (q : Prepared) (t : Option ℕ) → t ≡ Some table → IsReadyWith h (known_in view image.file) (contents_in view image.file) q t → l1_index_of h q.guest ≡ l1_index_of h offset
+    pub in_same : (q : Prepared) (t : Option ℕ) → t ≡ Some table → IsReadyWith h out.place (known_in view image.file) (contents_in view image.file) q t → l1_index_of h q.guest ≡ l1_index_of h offset
     in_same q None is ready = absurd cc
     in_same q (Some t) is ready =
-        let pending : IsPending h (known_in view image.file) (contents_in view image.file) q t = ready in
+        let pending : IsPending h out.place (known_in view image.file) (contents_in view image.file) q t = ready in
         let same : t ≡ table = cc in
         one_entry (l1_index_of h q.guest) (l1_index_of h offset) table _ _ (subst (λ c. IsEntryAt h (known_in view image.file) (l1_index_of h q.guest) c (q.guest / cluster_size h % entries_per_cluster h)) same pending.named) holds.entry
 

@@ -1,6 +1,6 @@
 -- An image whose new L2 table has its L1 entry, or doesn't: what is pending, and what waits to be freed.
 use Rattle.std.proofs.Common.{◌≡◌, ◌+◌, ◌∷◌, ◌++◌, ◌⊎◌, inl, inr, ℕ, false, List, [], Option, Result, Ok, Err, refl, sym, ap, ◌∙◌, subst, arith, Some}
-use Rattle.qcow2_image.proofs.Common.{cases_lt, BackingView, StorageView, passes_none, HeaderFields, l1_entry, host_offset, EntryTableView, L2TableView, table_in, entry_at, one_at, with_new_tables, new_tables_to_old_tables, Pending, SafeStep, KeepsFormat, pending_safe_throughout, pending_is_changed, unseen_known, run_at, taken_as, InternalAllocatorGrowth, RefusedGrowth, Allocator, KeepsPinsAndNotes, ImageFile, ClustersToFreeEntry, ClusterKind, ImageError, ListsTables, nothing_given, view_in, contents_in, known_in, state_in, one_few, one_here, pending_same, run_before, run_after, run_last, refused_kept, NoFreeBelowHint, BrokeOff, Qcow2, Prepared, SaysKnown, MayName, replacing, NamesNew, WritesNew, EntersTable, InterruptedPart, NamesOwn, InternalStep, RefusedStep, ListGrows, pending_with_listed, of_data, of_tables, to_free, ImageInvariant, leaked_by, leaked_in}
+use Rattle.qcow2_image.proofs.Common.{cases_lt, BackingView, StorageView, passes_none, HeaderFields, l1_entry, host_offset, EntryTableView, L2TableView, table_in, entry_at, one_at, with_new_tables, new_tables_to_old_tables, Pending, SafeStep, KeepsFormat, pending_safe_throughout, pending_is_changed, unseen_known, run_at, taken_as, InternalAllocatorGrowth, RefusedGrowth, Allocator, KeepsPinsAndNotes, ImageFile, ClustersToFreeEntry, ClusterKind, ImageError, ListsTables, nothing_given, view_in, contents_in, known_in, state_in, one_few, one_here, pending_same, run_before, run_after, run_last, refused_kept, NoFreeBelowHint, BrokeOff, Qcow2, Prepared, SaysKnown, MayName, replacing, NamesNew, WritesNew, EntersTable, InterruptedPart, NamesOwn, InternalStep, RefusedStep, ListGrows, pending_with_listed, of_data, of_tables, to_free, ImageInvariant, leaked_by, leaked_in, Mappings}
 use Rattle.qcow2_alloc.specs.declared.clusters_to_free.ClusterKind.TheVariants as Kind
 use Rattle.qcow2_alloc.proofs.FileSteps.{safe_throughout_then}
 use Rattle.qcow2_image.proofs.Call.Called.{keeps_then}
@@ -21,7 +21,7 @@ run_one first k =
 one_taken : (p : Pending) (first : ℕ) → taken_as false p (run_at first 1) ≡ with_new_tables p (one_at first)
 one_taken p first = pending_same (taken_as false p (run_at first 1)) (with_new_tables p (one_at first)) (λ k. refl) (λ k. let one = run_one first k in omega arith) (λ k. refl) (λ k. refl) (λ k. refl)
 
-module _ {S F : Type 0} (view : S → StorageView) (backing : F → BackingView) (out : List (Option Prepared)) where
+module _ {S F : Type 0} (view : S → StorageView) (backing : F → BackingView) (out : Mappings) where
   -- nothing was done
   pub keeps_none : (p : Pending) (image : Qcow2 S F) → ImageInvariant view backing p image out → InternalStep view backing p p image image out
   keeps_none p image sound = still_moved view backing image out p sound image.file.storage sound.file.honest (passes_none (view_in view image.file) _) refl

@@ -1,6 +1,6 @@
 -- An L1 entry gets an L2 table of its own: a new one, a copy, or the one that it had.
 use Rattle.std.proofs.Common.{◌≡◌, ◌*◌, ◌/◌, ◌%◌, ◌<◌, ◌∷◌, ◌++◌, ◌==◌, inl, inr, ℕ, List, [], Option, None, Result, Ok, Err, true, refl, sym, ap, ◌∙◌, subst, arith, IsErr, IsSome}
-use Rattle.qcow2_image.proofs.Common.{cond-true, eq-eqb, mod_below, BackingView, StorageView, Bytes, HeaderFields, cluster_size, entries_per_cluster, has_data_file, l2_entry, host_offset, is_copied, entry_cover, L2TableView, l2_table, table_in, entry_at, cover_of-0, Pending, table_at, safe_step_none, Sizes, Sizes-from, cover_none, cover_in, IsTop-top, MetadataCaches, ClustersToFreeEntry, metadata_entry, ImageError, ImageStorage, l2_pins, CachesHaveRoom, view_in, contents_in, known_in, state_in, storage_of, l2_at, IsEntryAt, ShowsKnown, InternalCacheStep, pending_same, Qcow2, Prepared, SaysKnown, MayName, NamesShared, NamesCopied, replacing, EntersTable, OwnsTable, NamesOwn, InternalStep, RefusedStep, pending_with_listed, HoldsTable, l1_index_of, ImageInvariant}
+use Rattle.qcow2_image.proofs.Common.{cond-true, eq-eqb, mod_below, BackingView, StorageView, Bytes, HeaderFields, cluster_size, entries_per_cluster, has_data_file, l2_entry, host_offset, is_copied, entry_cover, L2TableView, l2_table, table_in, entry_at, cover_of-0, Pending, table_at, safe_step_none, Sizes, Sizes-from, cover_none, cover_in, IsTop-top, MetadataCaches, ClustersToFreeEntry, metadata_entry, ImageError, ImageStorage, l2_pins, CachesHaveRoom, view_in, contents_in, known_in, state_in, storage_of, l2_at, IsEntryAt, ShowsKnown, InternalCacheStep, pending_same, Qcow2, Prepared, SaysKnown, MayName, NamesShared, NamesCopied, replacing, EntersTable, OwnsTable, NamesOwn, InternalStep, RefusedStep, pending_with_listed, HoldsTable, l1_index_of, ImageInvariant, Mappings}
 use Rattle.qcow2_image.proofs.Call.Called.{keeps_then}
 use Rattle.qcow2_image.proofs.Prepare.UnlinkedL2Table.{keeps_none, as_listed_after, interrupted_on, same_l1, keeps_listed, given_up, freed_table}
 use Rattle.qcow2_image.proofs.Map.Loading.{caches_moved, with_caches}
@@ -11,7 +11,7 @@ pub refused : {A E : Type 0} (P : Result A E → Type 0) (r : Result A E) → Is
 refused P (Ok x) is holds = absurd (let bad = is in cc)
 refused P (Err e) is holds = holds e
 
-module _ {S F : Type 0} (view : S → StorageView) (backing : F → BackingView) (out : List (Option Prepared)) (p : Pending) (old : Qcow2 S F) (sound : ImageInvariant view backing p old out) (index : ℕ) where
+module _ {S F : Type 0} (view : S → StorageView) (backing : F → BackingView) (out : Mappings) (p : Pending) (old : Qcow2 S F) (sound : ImageInvariant view backing p old out) (index : ℕ) where
   abbrev h : HeaderFields
   h = old.file.header.fields
 
@@ -111,7 +111,7 @@ module _ {S F : Type 0} (view : S → StorageView) (backing : F → BackingView)
     owned_then new (Err e) left = left_then new e left
 
 -- ---- and then it is loaded
-module _ {S F : Type 0} (view : S → StorageView) (backing : F → BackingView) (out : List (Option Prepared)) (p : Pending) (old mid : Qcow2 S F) (offset cluster : ℕ) (owned : InternalStep view backing p (pending_with_listed p old mid) old mid out) (storage : ImageStorage S) (caches : MetadataCaches S)
+module _ {S F : Type 0} (view : S → StorageView) (backing : F → BackingView) (out : Mappings) (p : Pending) (old mid : Qcow2 S F) (offset cluster : ℕ) (owned : InternalStep view backing p (pending_with_listed p old mid) old mid out) (storage : ImageStorage S) (caches : MetadataCaches S)
     (stay : InternalCacheStep mid.file.header.fields (pending_with_listed p old mid) (view_in view mid.file) mid.file.caches (view (storage_of storage)) caches) (room : CachesHaveRoom mid.file.caches → CachesHaveRoom caches) (pins : (t : ℕ) → l2_pins caches t ≡ l2_pins mid.file.caches t) where
   abbrev q : Pending
   q = pending_with_listed p old mid

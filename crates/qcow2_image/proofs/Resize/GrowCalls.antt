@@ -10,7 +10,7 @@ module _ {S F : Type 0} (view : S → StorageView) (backing : F → BackingView)
   refused_unasked e none out =
       let v = abstract_of view backing old out in
       let r = refuses_early v (refusal_of e) none in
-      let gs = all_given_by_grow view backing old size mode in
+      let gs = all_given_by_grow view backing out.place old size mode in
       record {
         acts = record { number = r.acts.number; works = λ sound. works_asking v v gs (size ∷ []) (works_less v v [] gs [] (λ o x never. absurd never) (λ g u. tt) (r.acts.works sound)); rests = r.acts.rests };
         answer = λ sound. elim (r.answer sound) [ inl still ↦ inl (still.0, ((guest_of v).disk, record { same_size = refl; values = λ o. inl refl }, still.1)) | inr failed ↦ inr failed ];
@@ -27,8 +27,8 @@ module _ {S F : Type 0} (view : S → StorageView) (backing : F → BackingView)
   pub grows_nothing : is_failed old ≡ false → size ≤ size_of old → GrowsTo view backing old old size mode (Ok tt)
   grows_nothing usable le out =
       let v = abstract_of view backing old out in
-      let gs = all_given_by_grow view backing old size mode in
-      let d = disk_of view backing old in
+      let gs = all_given_by_grow view backing out.place old size mode in
+      let d = disk_of view backing out.place old in
       record {
         acts = record {
           number = refl;

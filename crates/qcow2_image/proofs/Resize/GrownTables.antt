@@ -1,6 +1,6 @@
 -- The tables after a growth: the L1 table covers the last byte, and a pinned L2 table refuses the growth only past the old end.
 use Rattle.std.proofs.Common.{◌≡◌, ◌+◌, ◌*◌, ◌-◌, ◌/◌, ◌%◌, ◌<◌, ◌≤◌, ℕ, Bool, true, false, List, Option, refl, sym, ap, ◌∙◌, subst, arith, inl, inr, IfErr, Result, Ok, Err, None, Some}
-use Rattle.qcow2_image.proofs.Common.{OnOk, cases_lt, div-add-mod', mod_below, pow_pos, BackingView, StorageView, PreallocateMode, Bytes, cover, copied_host, zero_cover, HeaderFields, L2Mapping, Uncovered, HeaderView, cluster_size, rounded_up, with_fields, with_size, with_tables_of, shows_old, GrownCovers, first_zeros, is_copied_data, guests, places_of, with_places, past_guests, Sizes, ImageError, known_in, file_sizes, InternalCall, Qcow2, Prepared, ReachesSize, SameFormat, HasNothingToFree, is_failed, number_of, size_of, ImageInvariant, disk_of, pending_in, ReachesOffset, CoversStay, MovesTables, FillsGrown, GrownFree, IsUnderMappingIn, RefusedGrown, GrowsTables, LacksZeros, RefusesUnchanged, WritesSize, boundary_in}
+use Rattle.qcow2_image.proofs.Common.{OnOk, cases_lt, div-add-mod', mod_below, pow_pos, BackingView, StorageView, PreallocateMode, Bytes, cover, copied_host, zero_cover, HeaderFields, L2Mapping, Uncovered, HeaderView, cluster_size, rounded_up, with_fields, with_size, with_tables_of, shows_old, GrownCovers, first_zeros, is_copied_data, guests, places_of, with_places, past_guests, Sizes, ImageError, known_in, file_sizes, InternalCall, Qcow2, Prepared, ReachesSize, SameFormat, HasNothingToFree, is_failed, number_of, size_of, ImageInvariant, disk_of, pending_in, ReachesOffset, CoversStay, MovesTables, FillsGrown, GrownFree, IsUnderMappingIn, RefusedGrown, GrowsTables, LacksZeros, RefusesUnchanged, WritesSize, boundary_in, Mappings}
 use Rattle.image_access.specs.declared.storage.PreallocateMode.TheVariants as Mode
 use Rattle.qcow2_disk.specs.GrownCovers.{FilledCovers}
 use Rattle.qcow2_alloc.specs.declared.error.ImageError.TheVariants as I
@@ -67,7 +67,7 @@ format_sized h m h' size file_step is =
 autoclear_sized : (h m h' : HeaderFields) (size : ℕ) → MovesTables h m → h' ≡ with_size m size → h'.autoclear ≡ h.autoclear
 autoclear_sized h m h' size file_step is = ap (λ (k : HeaderFields). k.autoclear) is ∙ ap (λ (k : HeaderFields). k.autoclear) file_step
 
-module _ {S F : Type 0} (view : S → StorageView) (backing : F → BackingView) (out : List (Option Prepared)) where
+module _ {S F : Type 0} (view : S → StorageView) (backing : F → BackingView) (out : Mappings) where
   -- filling the range past the old end keeps that
   module _ (long filled : Qcow2 S F) (size : ℕ) (sound : ImageInvariant view backing (pending_in view backing long out) long out) (larger : size_of long < size) where
     filled_reaches : (first : ℕ) → MovesTables long.file.header.fields filled.file.header.fields → ImageInvariant view backing (pending_in view backing filled out) filled out
@@ -101,7 +101,7 @@ module _ {S F : Type 0} (view : S → StorageView) (backing : F → BackingView)
   pub taken_behind : (old long filled : Qcow2 S F) (size : ℕ) (mode : PreallocateMode) (e : ImageError) → InternalCall view backing old long out → RefusedGrown view backing size mode long filled out e
       → e ≡ I.TablePrepared → (shows_old mode ≡ false) × IsUnderMappingIn old.file.header.fields (size_of old) (boundary_in old size) out
   taken_behind old long filled size mode e call refused is =
-      let d = disk_of view backing long in
+      let d = disk_of view backing out.place long in
       let end = rounded_up (cluster_size long.file.header.fields) size in
       let shown = disk_size view backing long out call.sound in
       let moved : size_of long ≡ size_of old = ap (λ (h : HeaderFields). h.size) call.header in

@@ -1,6 +1,6 @@
 -- Guests don't see which changes are recorded: a call does the same to the image with other marks.
 use Rattle.std.proofs.Common.{◌≡◌, Bool, Option, Some, None, List, ℕ, inl, inr, refl, sym, subst, Result, Ok, Err}
-use Rattle.qcow2_image.proofs.Common.{IfSome, BackingView, StorageView, PreallocateMode, AbstractImage, CallEffect, AnsweredEffect, Refusal, RefusedEffect, EffectOnSound, GivenBytes, Allocator, ImageError, IsAllocatorOf, is_changed_of, file_invariant_of, Qcow2, Prepared, CountsImageFaults, SameFaults, is_failed, with_marks, ImageInvariant, abstract_of, pending_in, GrowsTables, GrowsTo, RefusesUnchanged, Shrinks}
+use Rattle.qcow2_image.proofs.Common.{IfSome, BackingView, StorageView, PreallocateMode, AbstractImage, CallEffect, AnsweredEffect, Refusal, RefusedEffect, EffectOnSound, GivenBytes, Allocator, ImageError, IsAllocatorOf, is_changed_of, file_invariant_of, Qcow2, Prepared, CountsImageFaults, SameFaults, is_failed, with_marks, ImageInvariant, abstract_of, pending_in, GrowsTables, GrowsTo, RefusesUnchanged, Shrinks, Mappings}
 use Rattle.qcow2_image.proofs.Call.FaultCounts.{counted_since, counted_still}
 
 module _ {S F : Type 0} (view : S → StorageView) (backing : F → BackingView) where
@@ -8,22 +8,21 @@ module _ {S F : Type 0} (view : S → StorageView) (backing : F → BackingView)
   reftable_noted image recorded None has = tt
   reftable_noted image recorded (Some a) has = record { reftable = record { cluster = has.reftable.cluster; bits = has.reftable.bits; count = has.reftable.count; entries = has.reftable.entries }; hint = has.hint }
 
-  pub sound_noted : (image : Qcow2 S F) (recorded : Bool) (out : List (Option Prepared)) → ImageInvariant view backing (pending_in view backing image out) image out
+  pub sound_noted : (image : Qcow2 S F) (recorded : Bool) (out : Mappings) → ImageInvariant view backing (pending_in view backing image out) image out
       → ImageInvariant view backing (pending_in view backing (with_marks image recorded (is_failed image)) out) (with_marks image recorded (is_failed image)) out
   sound_noted image recorded out s = record {
     works = s.works;
     file = file_invariant_of s.file.honest s.file.caches s.file.named_blocks s.file.room;
     l1_table = record { cluster = s.l1_table.cluster; bits = s.l1_table.bits; count = s.l1_table.count; entries = s.l1_table.entries };
     reftable = reftable_noted image recorded image.allocator s.reftable;
-    inside = s.inside;
-    alone = s.alone;
+    stands = s.stands;
     below = s.below;
     ready = λ k q at. let r = s.ready k q at in record { own = r.own; mapped = r.mapped };
     pinned = s.pinned;
     once = s.once;
   }
 
-  module _ (v : AbstractImage) (image : Qcow2 S F) (recorded : Bool) (out : List (Option Prepared)) (given : List GivenBytes) (asked : List ℕ) where
+  module _ (v : AbstractImage) (image : Qcow2 S F) (recorded : Bool) (out : Mappings) (given : List GivenBytes) (asked : List ℕ) where
     abbrev other : Qcow2 S F
     other = with_marks image recorded (is_failed image)
 
@@ -61,7 +60,7 @@ module _ {S F : Type 0} (view : S → StorageView) (backing : F → BackingView)
     shrinks_noted (Ok at) shrinks = λ out. does_noted _ image recorded out _ _ (shrinks out)
     shrinks_noted (Err e) shrinks = λ out. refuses_noted _ image recorded out _ _ _ (shrinks out)
 
-    pub unchanged_noted : (out : List (Option Prepared)) (e : ImageError) → RefusesUnchanged view backing old image out e → RefusesUnchanged view backing old (with_marks image recorded (is_failed image)) out e
+    pub unchanged_noted : (out : Mappings) (e : ImageError) → RefusesUnchanged view backing old image out e → RefusesUnchanged view backing old (with_marks image recorded (is_failed image)) out e
     unchanged_noted out e refuses = refuses_noted _ image recorded out _ _ _ refuses
 
     module _ (mode : PreallocateMode) where
@@ -69,7 +68,7 @@ module _ {S F : Type 0} (view : S → StorageView) (backing : F → BackingView)
       grows_noted (Ok done) grows = λ out. does_noted _ image recorded out _ _ (grows out)
       grows_noted (Err e) grows = λ out. refuses_noted _ image recorded out _ _ _ (grows out)
 
-      pub tables_noted : (out : List (Option Prepared)) (r : Result (Unit {0}) ImageError) → GrowsTables view backing old image size mode out r → GrowsTables view backing old (with_marks image recorded (is_failed image)) size mode out r
+      pub tables_noted : (out : Mappings) (r : Result (Unit {0}) ImageError) → GrowsTables view backing old image size mode out r → GrowsTables view backing old (with_marks image recorded (is_failed image)) size mode out r
       tables_noted out (Ok done) tables = record { autoclear = tables.autoclear; format = tables.format; reaches = tables.reaches; length = tables.length; covers = tables.covers; emptied = tables.emptied; zeros = tables.zeros; free = tables.free }
       tables_noted out (Err e) tables = record {
         taken = tables.taken;

@@ -1,6 +1,6 @@
 -- A refused step of a shrink, after which clusters are freed.
 use Rattle.std.proofs.Common.{◌≡◌, ◌⊎◌, ◌<◌, ℕ, arith, inl, inr, Bool, true, false, List, [], refl, sym, ap, ◌∙◌, IsTrue, Option, Err}
-use Rattle.qcow2_image.proofs.Common.{BackingView, StorageView, cluster_size, rounded_up, AbstractImage, Setting, EffectOnSound, IsRefusalByFault, IsSame, RefusedEffect, works_then, ImageError, InternalCall, refusal_of, Qcow2, Prepared, HasNothingToFree, is_failed, number_of, size_of, ImageInvariant, abstract_of, pending_in, MarksRefused, failed_after, DiscardsNext, boundary_in}
+use Rattle.qcow2_image.proofs.Common.{BackingView, StorageView, cluster_size, rounded_up, AbstractImage, Setting, EffectOnSound, IsRefusalByFault, IsSame, RefusedEffect, works_then, ImageError, InternalCall, refusal_of, Qcow2, Prepared, HasNothingToFree, is_failed, number_of, size_of, ImageInvariant, abstract_of, pending_in, MarksRefused, failed_after, DiscardsNext, boundary_in, Mappings}
 use Rattle.qcow2_alloc.specs.declared.error.ImageError.TheVariants as I
 use Rattle.qcow2_alloc.specs.ImageError.{IsFault as IsFaultOfTables}
 use Rattle.qcow2_image.proofs.Lemmas.{is_fault, outcome, may_mark_refused, IsDiscardedSoFar, fault_of, marks_nothing}
@@ -19,14 +19,14 @@ module _ {S F : Type 0} (view : S → StorageView) (backing : F → BackingView)
 
   module _ (at : ℕ) (usable : is_failed old ≡ false) (number : number_of new ≡ number_of old) (turn : DiscardsNext view backing old mid at (Err e)) where
     -- the step left a sound image, which shows what it showed
-    pub turn_still : (out : List (Option Prepared)) → ImageInvariant view backing (pending_in view backing old out) old out
+    pub turn_still : (out : Mappings) → ImageInvariant view backing (pending_in view backing old out) old out
         → ImageInvariant view backing (pending_in view backing mid out) mid out × IsSame (abstract_of view backing old out) (abstract_of view backing mid out)
     turn_still out sound = elim ((turn.1 (λ is. none (fault_of e is)) out).answer sound) [ inl is ↦ is | inr failed ↦ absurd (none (fault_of e failed.0)) ]
 
     module _ (last : ImageError) (marks : MarksRefused old new last)
-        (ends : (out : List (Option Prepared)) → ImageInvariant view backing (pending_in view backing mid out) mid out
+        (ends : (out : Mappings) → ImageInvariant view backing (pending_in view backing mid out) mid out
         → InternalCall view backing mid new out ⊎ RefusedEffect (abstract_of view backing mid out) (abstract_of view backing new out) [] [] (refusal_of last) (IsSame (abstract_of view backing mid out) (abstract_of view backing new out))) where
-      module _ (out : List (Option Prepared)) where
+      module _ (out : Mappings) where
         abbrev v : AbstractImage
         v = abstract_of view backing old out
 
@@ -62,7 +62,7 @@ module _ {S F : Type 0} (view : S → StorageView) (backing : F → BackingView)
 
 module _ {S F : Type 0} (view : S → StorageView) (backing : F → BackingView) where
   -- before a step nothing waits to be freed, or it is the first step, and a whole cluster lies past it
-  pub frees_next : (old now : Qcow2 S F) (size at end : ℕ) → IsDiscardedSoFar view backing old now size at end → (out : List (Option Prepared)) → ImageInvariant view backing (pending_in view backing old out) old out → boundary_in old size < end
+  pub frees_next : (old now : Qcow2 S F) (size at end : ℕ) → IsDiscardedSoFar view backing old now size at end → (out : Mappings) → ImageInvariant view backing (pending_in view backing old out) old out → boundary_in old size < end
       → (at ≡ size) ⊎ HasNothingToFree now → (boundary_in now at < size_of now) ⊎ HasNothingToFree now
   frees_next old now size at end so out sound before (inl first) =
       let cs : cluster_size now.file.header.fields ≡ cluster_size old.file.header.fields = ap (λ (s : Setting). s.cluster_size) (so.so_far out sound).0.works.setting in

@@ -39,7 +39,7 @@ module _ {S F : Type 0} (view : S → StorageView) (backing : F → BackingView)
   refused_unasked e none out =
       let v = abstract_of view backing old out in
       let r = refuses_early v (refusal_of e) none in
-      let gs = all_given_by_shrink view backing old size in
+      let gs = all_given_by_shrink view backing out.place old size in
       record {
         acts = record { number = r.acts.number; works = λ sound. works_asking v v gs (size ∷ []) (works_less v v [] gs [] (λ o x never. absurd never) (λ g u. tt) (r.acts.works sound)); rests = r.acts.rests };
         answer = r.answer;
@@ -56,7 +56,7 @@ module _ {S F : Type 0} (view : S → StorageView) (backing : F → BackingView)
   pub shrinks_nothing : is_failed old ≡ false → size_of old ≤ size → Shrinks view backing old old size (Ok (size_of old))
   shrinks_nothing usable le out =
       let v = abstract_of view backing old out in
-      let gs = all_given_by_shrunk view backing old size (size_of old) in
+      let gs = all_given_by_shrunk view backing out.place old size (size_of old) in
       record {
         acts = record {
           number = refl;
@@ -64,7 +64,7 @@ module _ {S F : Type 0} (view : S → StorageView) (backing : F → BackingView)
           rests = λ failed. absurd (let no : true ≡ false = sym failed ∙ usable in cc);
         };
         answer = λ sound. let s = disk_size view backing old out sound in
-            (sound, (disk_of view backing old, record { no_smaller = λ _. (s, refl); smaller = λ lt. absurd (omega (arith, lt, s, le)) }, refl));
+            (sound, (disk_of view backing out.place old, record { no_smaller = λ _. (s, refl); smaller = λ lt. absurd (omega (arith, lt, s, le)) }, refl));
       }
 
   -- ---- why it is refused later

@@ -1,6 +1,6 @@
 -- The size of the disk is written: the image is as sound as before, whatever mappings are prepared, and shows the same bytes.
 use Rattle.std.proofs.Common.{◌≡◌, ◌+◌, ◌/◌, ◌^◌, ◌<◌, ◌≢◌, ◌∷◌, inl, inr, ℕ, Bool, true, false, List, [], Option, Some, None, Result, Ok, Err, refl, sym, ap, ◌∙◌, subst, arith, IsTrue}
-use Rattle.qcow2_image.proofs.Common.{IfSome, slice_get, cond-true, cond-false, fun_ext, BackingView, StorageView, Calls, Changes, EachMomentSince, IsLeftBy, StorageError, Bytes, byte_at, cover, cover_under, HeaderFields, l1_entry, count, count_under, reftable_entry, guest_value, known_byte, cluster_size, with_fields, with_size, size_written, guest_of, meaning_at, with_disk, disk, disk_with, SafeThroughout, Pending, SafeStep, WritesHeader, resized_places, SameUsedBytes, used_by_guests, own_data_of, header_elsewhere, header_fixed, header_l1, header_known_l1, header_known_covers, header_known_counts, tied, step_safe_throughout, header_is_written, known_header, named_some, table_bytes, Allocator, ImageStorage, of_storage, nothing_given, view_in, contents_in, known_in, state_in, storage_of, known_of, order_of, IsAllocatorOf, allocator_kept, InternalCall, Qcow2, Prepared, LastsKnown, ImageInvariant, abstract_of, backing_bytes, cluster_of, disk_of, is_private, meaning, pending_in, place_of, CoversStay, MayStand, SetsSize, WritesSize, HoldsAll, stops_of, file_invariant_of}
+use Rattle.qcow2_image.proofs.Common.{IfSome, slice_get, cond-true, cond-false, fun_ext, BackingView, StorageView, Calls, Changes, EachMomentSince, IsLeftBy, StorageError, Bytes, byte_at, cover, cover_under, HeaderFields, l1_entry, count, count_under, reftable_entry, guest_value, known_byte, cluster_size, with_fields, with_size, size_written, guest_of, meaning_at, with_disk, disk, disk_with, SafeThroughout, Pending, SafeStep, WritesHeader, resized_places, SameUsedBytes, used_by_guests, own_data_of, header_elsewhere, header_fixed, header_l1, header_known_l1, header_known_covers, header_known_counts, tied, step_safe_throughout, header_is_written, known_header, named_some, table_bytes, Allocator, ImageStorage, of_storage, nothing_given, view_in, contents_in, known_in, state_in, storage_of, known_of, order_of, IsAllocatorOf, allocator_kept, InternalCall, Qcow2, Prepared, LastsKnown, ImageInvariant, abstract_of, backing_bytes, cluster_of, disk_of, is_private, meaning, pending_in, place_of, CoversStay, MayStand, SetsSize, WritesSize, HoldsAll, stops_of, file_invariant_of, Mappings, Image}
 use Rattle.image_access.specs.declared.error.StorageError.TheVariants as SE
 use Rattle.qcow2_laws.proofs.Values.{guest_value-same, size_is, value_is}
 use Rattle.qcow2_alloc.specs.declared.error.ImageError.TheVariants as I
@@ -8,6 +8,7 @@ use Rattle.qcow2_alloc.proofs.Numbers.{size_writes}
 use Rattle.qcow2_image.proofs.Lemmas.{same_guest, same_mapping, listed, stays_kept, still_moved, still_ready, private_used, pending_is, all_stay}
 use Rattle.qcow2_image.proofs.Images.Formats.{ready_with}
 use Rattle.qcow2_image.proofs.Open.HeaderKept.{resized_l1, resized_reftable, placed_named_blocks, placed_sound}
+use Rattle.qcow2_image.proofs.Images.Places.{inside_of, from_image}
 
 -- ---- what is read with a header of another size
 module _ (h : HeaderFields) (size : ℕ) where
@@ -19,7 +20,7 @@ module _ (h : HeaderFields) (size : ℕ) where
   unfolding guest_value cover cover_under l1_entry
   value_sized b backing o = refl
 
-module _ {S F : Type 0} (view : S → StorageView) (backing : F → BackingView) (out : List (Option Prepared)) (p : Pending) (old : Qcow2 S F) (sound : ImageInvariant view backing p old out) (size : ℕ) (fits : size < 2 ^ 64) where
+module _ {S F : Type 0} (view : S → StorageView) (backing : F → BackingView) (out : Mappings) (p : Pending) (old : Qcow2 S F) (sound : ImageInvariant view backing p old out) (size : ℕ) (fits : size < 2 ^ 64) where
   abbrev h : HeaderFields
   h = old.file.header.fields
 
@@ -103,13 +104,12 @@ module _ {S F : Type 0} (view : S → StorageView) (backing : F → BackingView)
               sound.file.room;
           l1_table = record { cluster = sound.l1_table.cluster; bits = sound.l1_table.bits; count = sound.l1_table.count; entries = λ i. sound.l1_table.entries i ∙ sym (l1 i) };
           reftable = reftable_now old.allocator sound.reftable;
-          inside = sound.inside;
-          alone = sound.alone;
+          stands = sound.stands;
           below = sound.below;
           ready = λ k q at. let was = sound.ready k q at in record {
             own = was.own;
-            mapped = ready_with h size h.reftable_offset h.reftable_clusters (known_in view sized.file) (contents_in view sized.file) q q.table
-                (still_ready h known on_storage (known_in view sized.file) (contents_in view sized.file) q top (λ i. l1_now i ∙ top i ∙ known_l1_now i) (λ i _. l1_now i) (λ i. covers_now (cluster_of h q + i)) q.table was.mapped);
+            mapped = ready_with h size h.reftable_offset h.reftable_clusters (known_in view sized.file) (contents_in view sized.file) out.place q q.table
+                (still_ready h out.place known on_storage (known_in view sized.file) (contents_in view sized.file) q top (λ i. l1_now i ∙ top i ∙ known_l1_now i) (λ i _. l1_now i) (λ i. covers_now (cluster_of h q + i)) q.table was.mapped);
           };
           pinned = sound.pinned;
           once = sound.once;
@@ -132,7 +132,7 @@ module _ {S F : Type 0} (view : S → StorageView) (backing : F → BackingView)
         let value : (disk (known_in view sized.file) below).value ≡ (disk known below).value = fun_ext (λ o.
         value_is (with_size h size) (known_in view sized.file) below o is'
         ∙ value_sized h size (known_in view sized.file) below o
-        ∙ sym (guest_value-same h known (known_in view sized.file) below o (own_data_of h sound.inside) (covers_now (o / cluster_size h)) (crash_invariant.known_aligned (o / cluster_size h))
+        ∙ sym (guest_value-same h known (known_in view sized.file) below o (own_data_of h (inside_of sound)) (covers_now (o / cluster_size h)) (crash_invariant.known_aligned (o / cluster_size h))
         (λ place some. sym (used_bytes place (let one = named_some s s' crash_invariant (place / cluster_size h) (o / cluster_size h) some in omega arith))))
         ∙ sym (value_is h known below o was)) in
         λ j. record { size = now j; value = value j }
@@ -143,23 +143,23 @@ module _ {S F : Type 0} (view : S → StorageView) (backing : F → BackingView)
       elsewhere o some = header_elsewhere h (resized_places h size h.autoclear) (order_of old.file.caches) p on_storage known (contents_in view sized.file) (known_in view sized.file) sound.file.caches.kept.kept.crash_invariant writes_now o
           (let t = (tied h p on_storage known (o / cluster_size h)).known in omega arith)
 
-      place_now : (k : ℕ) (q : Prepared) → slice_get out k ≡ Some (Some q) → (o : ℕ) → IsTrue (is_private view backing old q o) → contents_in view sized.file (place_of h q o) ≡ contents_in view old.file (place_of h q o)
+      place_now : (k : ℕ) (q : Prepared) → slice_get out.slots k ≡ Some (Some q) → (o : ℕ) → IsTrue (is_private view backing old q o) → contents_in view sized.file (place_of h q o) ≡ contents_in view old.file (place_of h q o)
       place_now k q at o private = sym (writes_now.others (place_of h q o) (elsewhere (place_of h q o) (private_used view backing old out p sound holds k q at o private)))
 
-      shown_now : (k : ℕ) (q : Prepared) → slice_get out k ≡ Some (Some q) → (o : ℕ) (b : Bool) → is_private view backing old q o ≡ b → (meaning view backing sized q).shown o ≡ (meaning view backing old q).shown o
+      shown_now : (k : ℕ) (q : Prepared) → slice_get out.slots k ≡ Some (Some q) → (o : ℕ) (b : Bool) → is_private view backing old q o ≡ b → (meaning view backing Image sized q).shown o ≡ (meaning view backing Image old q).shown o
       shown_now k q at o true is' = ap known_byte (cond-true _ _ _ is' ∙ place_now k q at o is' ∙ sym (cond-true _ _ _ is'))
       shown_now k q at o false is' = ap known_byte (cond-false _ _ _ is' ∙ sym (cond-false _ _ _ is'))
 
-      slot_now : (k : ℕ) (m : Option (Option Prepared)) → slice_get out k ≡ m → meaning_at (meaning view backing sized) m ≡ meaning_at (meaning view backing old) m
+      slot_now : (k : ℕ) (m : Option (Option Prepared)) → slice_get out.slots k ≡ m → meaning_at (meaning view backing out.place sized) m ≡ meaning_at (meaning view backing out.place old) m
       slot_now k None at = refl
       slot_now k (Some None) at = refl
-      slot_now k (Some (Some q)) at = ap Some (same_mapping _ _ refl refl refl refl (fun_ext (λ o. shown_now k q at o (is_private view backing old q o) refl)))
+      slot_now k (Some (Some q)) at = ap Some (from_image (λ file. meaning view backing file sized q ≡ meaning view backing file old q) sound (same_mapping _ _ refl refl refl refl (fun_ext (λ o. shown_now k q at o (is_private view backing old q o) refl))))
 
-      pub guest_now : guest_of (abstract_of view backing sized out) ≡ with_disk (guest_of (abstract_of view backing old out)) (record (disk_of view backing old) { size = size })
-      guest_now = same_guest _ _ (disk_now (backing_bytes view backing old.backing)) (fun_ext (λ k. slot_now k (slice_get out k) refl))
+      pub guest_now : guest_of (abstract_of view backing sized out) ≡ with_disk (guest_of (abstract_of view backing old out)) (record (disk_of view backing out.place old) { size = size })
+      guest_now = same_guest _ _ (from_image (λ file. disk_of view backing file sized ≡ record (disk_of view backing file old) { size = size }) sound (disk_now (backing_bytes view backing old.backing))) (fun_ext (λ k. slot_now k (slice_get out.slots k) refl))
 
 -- ---- as a part of a call
-module _ {S F : Type 0} (view : S → StorageView) (backing : F → BackingView) (out : List (Option Prepared)) (old : Qcow2 S F) (sound : ImageInvariant view backing (pending_in view backing old out) old out) (size : ℕ) (fits : size < 2 ^ 64) where
+module _ {S F : Type 0} (view : S → StorageView) (backing : F → BackingView) (out : Mappings) (old : Qcow2 S F) (sound : ImageInvariant view backing (pending_in view backing old out) old out) (size : ℕ) (fits : size < 2 ^ 64) where
   abbrev q : Pending
   q = pending_in view backing old out
 
@@ -170,7 +170,7 @@ module _ {S F : Type 0} (view : S → StorageView) (backing : F → BackingView)
     now = sized view backing out q old sound size fits storage is honest
 
     pending_now : q ≡ pending_in view backing now out
-    pending_now = pending_is view backing now out q (safe_step_now view backing out q old sound size fits storage is honest).sound sound.inside (record { new_data = λ k. refl; new_tables = λ k. refl; old_tables = λ k. refl; old_data = λ k. refl })
+    pending_now = pending_is view backing now out q (safe_step_now view backing out q old sound size fits storage is honest).sound (inside_of sound) (record { new_data = λ k. refl; new_tables = λ k. refl; old_tables = λ k. refl; old_data = λ k. refl })
 
     pub sets_size : SetsSize view backing size old now out
     sets_size =
@@ -230,7 +230,7 @@ module _ {S F : Type 0} (view : S → StorageView) (backing : F → BackingView)
         inl (subst (λ (a : Qcow2 S F). InternalCall view backing old a out) (sym is) (unsized_stays storage (calls.honest sound.file.honest) (calls.time sound.file.honest) (rw done at (changes sound.file.honest))))
 
 -- ---- over every disk below
-pub lasts_sized : {S F : Type 0} (view : S → StorageView) (backing : F → BackingView) (out : List (Option Prepared)) (p : Pending) (old : Qcow2 S F) (sound : ImageInvariant view backing p old out) (size : ℕ) (fits : size < 2 ^ 64) (storage : ImageStorage S) (result : Result (Unit {0}) StorageError) (asked : S)
+pub lasts_sized : {S F : Type 0} (view : S → StorageView) (backing : F → BackingView) (out : Mappings) (p : Pending) (old : Qcow2 S F) (sound : ImageInvariant view backing p old out) (size : ℕ) (fits : size < 2 ^ 64) (storage : ImageStorage S) (result : Result (Unit {0}) StorageError) (asked : S)
     → asked ≡ storage_of old.file.storage → Changes (view asked) (view (storage_of storage)) result (size_written (with_size old.file.header.fields size)) → Calls (view asked) (view (storage_of storage)) result
     → (x : Unit {0}) → result ≡ Ok x → (new : Qcow2 S F) → new ≡ record old { file = record old.file { storage = storage; header = with_fields old.file.header (with_size old.file.header.fields size) } } → LastsKnown view old new (size ∷ [])
 lasts_sized {S = S} {F = F} view backing out p old sound size fits storage result asked same wrote called x done new is =

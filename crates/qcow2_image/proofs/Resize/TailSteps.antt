@@ -1,6 +1,6 @@
 -- The tail of a disk is unmapped step by step: where the steps end, and one part after another.
 use Rattle.std.proofs.Common.{◌≡◌, ◌⊎◌, ◌+◌, ◌-◌, ◌*◌, ◌/◌, ◌%◌, ◌^◌, ◌<◌, ◌≤◌, ◌∷◌, ◌==◌, if◌then◌else◌, inl, inr, ℕ, List, [], refl, sym, ap, ◌∙◌, subst, arith, cond, min, Option, nat_lt}
-use Rattle.qcow2_image.proofs.Common.{cases_lt, cond-true, cond-false, eq-eqb, lt-ltb, le-ltb, div-add-mod', mod-mul-add, mod_below, fun_ext, BackingView, StorageView, Bytes, Value, known_byte, HeaderFields, cluster_size, entries_per_cluster, rounded_up, rounded_down, AbstractImage, Guest, Setting, guest_of, IsShrinkEnd, EffectOnSound, with_disk, Disk, with_values, answered, touched_to, Checkpoint, GivenBytes, IsGiven, StopOkEverywhere, checkpoint_with, works_less, works_then, stops_less, laid_inside, laid_outside, div_mono, known_in, InternalCall, Qcow2, Prepared, ClearsImageCovers, setting_of, ImageInvariant, abstract_of, disk_of, pending_in, IsTurnEnd, DiscardsPart, boundary_in}
+use Rattle.qcow2_image.proofs.Common.{cases_lt, cond-true, cond-false, eq-eqb, lt-ltb, le-ltb, div-add-mod', mod-mul-add, mod_below, fun_ext, BackingView, StorageView, Bytes, Value, known_byte, HeaderFields, cluster_size, entries_per_cluster, rounded_up, rounded_down, AbstractImage, Guest, Setting, guest_of, IsShrinkEnd, EffectOnSound, with_disk, Disk, with_values, answered, touched_to, Checkpoint, GivenBytes, IsGiven, StopOkEverywhere, checkpoint_with, works_less, works_then, stops_less, laid_inside, laid_outside, div_mono, known_in, InternalCall, Qcow2, Prepared, ClearsImageCovers, setting_of, ImageInvariant, abstract_of, disk_of, pending_in, IsTurnEnd, DiscardsPart, boundary_in, Mappings}
 use Rattle.qcow2_disk.proofs.Stops.{asked_more}
 use Rattle.qcow2_image.specs.declared.discarding.ClearMode.TheVariants.{Uncovered}
 use Rattle.qcow2_image.proofs.Clear.ClearCalls.{covers_after}
@@ -220,16 +220,16 @@ works_asking old new gs asked w = record {
     more m b k = record { consistent = k.consistent; rest = k.rest; size = elim k.size [ inl e ↦ inl e | inr a ↦ inr (asked_more asked m.asked _ a) ]; values = k.values }
 
 -- ---- parts
-module _ {S F : Type 0} (view : S → StorageView) (backing : F → BackingView) (out : List (Option Prepared)) where
+module _ {S F : Type 0} (view : S → StorageView) (backing : F → BackingView) (out : Mappings) where
   -- nothing is unmapped yet
   pub uncovers_none : (size : ℕ) (old new : Qcow2 S F) → InternalCall view backing old new out → DiscardsPart view backing size size old new out
   uncovers_none size old new call =
       let v = abstract_of view backing old out in
       let none : boundary_in old size - boundary_in old size ≡ 0 = omega arith in
       record {
-        works = works_less v (abstract_of view backing new out) [] (given_below (setting_of view backing old) (disk_of view backing old) (boundary_in old size) (boundary_in old size - boundary_in old size)) [] (λ o w never. absurd never) (λ g u. tt) call.works;
+        works = works_less v (abstract_of view backing new out) [] (given_below (setting_of view backing old) (disk_of view backing out.place old) (boundary_in old size) (boundary_in old size - boundary_in old size)) [] (λ o w never. absurd never) (λ g u. tt) call.works;
         sound = call.sound;
-        shows = call.same ∙ ap (λ d. with_disk (guest_of v) d) (sym (none_below (setting_of view backing old) (disk_of view backing old) (boundary_in old size) (boundary_in old size - boundary_in old size) none));
+        shows = call.same ∙ ap (λ d. with_disk (guest_of v) d) (sym (none_below (setting_of view backing old) (disk_of view backing out.place old) (boundary_in old size) (boundary_in old size - boundary_in old size) none));
         covers = uncovers_no_cluster (boundary_in old size) (boundary_in old size) old.file.header.fields new.file.header.fields (known_in view old.file) (known_in view new.file) (omega arith) call.covers;
       }
 
@@ -239,7 +239,7 @@ module _ {S F : Type 0} (view : S → StorageView) (backing : F → BackingView)
   uncovers_still size at old mid new part works sound same =
       let m = abstract_of view backing mid out in
       let w = abstract_of view backing new out in
-      let gs = given_below (setting_of view backing old) (disk_of view backing old) (boundary_in old size) (boundary_in old at - boundary_in old size) in
+      let gs = given_below (setting_of view backing old) (disk_of view backing out.place old) (boundary_in old size) (boundary_in old at - boundary_in old size) in
       record {
         works = works_then (abstract_of view backing old out) m w gs [] part.sound part.works (works_less m w [] gs [] (λ o x never. absurd never) (λ g u. tt) works);
         sound = sound;
@@ -254,7 +254,7 @@ module _ {S F : Type 0} (view : S → StorageView) (backing : F → BackingView)
     x = setting_of view backing old
 
     abbrev d : Disk
-    d = disk_of view backing old
+    d = disk_of view backing out.place old
 
     abbrev start : ℕ
     start = boundary_in old size
@@ -268,7 +268,7 @@ module _ {S F : Type 0} (view : S → StorageView) (backing : F → BackingView)
     setting_is : setting_of view backing mid ≡ setting_of view backing old
     setting_is = first.works.setting
 
-    disk_is : disk_of view backing mid ≡ shown_below x d start n
+    disk_is : disk_of view backing out.place mid ≡ shown_below x d start n
     disk_is = ap (λ (g : Guest). g.disk) first.shows
 
     boundary_is : (o : ℕ) → boundary_in mid o ≡ boundary_in old o
@@ -281,9 +281,9 @@ module _ {S F : Type 0} (view : S → StorageView) (backing : F → BackingView)
     all_of_it = omega (arith, le, on)
 
     -- what the later step leaves, and gives
-    second_shows : shown_below (setting_of view backing mid) (disk_of view backing mid) (boundary_in mid at) (boundary_in mid next - boundary_in mid at) ≡ shown_below x d start (boundary_in old next - boundary_in old size)
+    second_shows : shown_below (setting_of view backing mid) (disk_of view backing out.place mid) (boundary_in mid at) (boundary_in mid next - boundary_in mid at) ≡ shown_below x d start (boundary_in old next - boundary_in old size)
     second_shows =
-        ap (λ s. shown_below s (disk_of view backing mid) (boundary_in mid at) (boundary_in mid next - boundary_in mid at)) setting_is
+        ap (λ s. shown_below s (disk_of view backing out.place mid) (boundary_in mid at) (boundary_in mid next - boundary_in mid at)) setting_is
         ∙ ap (λ e. shown_below x e (boundary_in mid at) (boundary_in mid next - boundary_in mid at)) disk_is
         ∙ ap (λ k. shown_below x (shown_below x d start n) k (boundary_in mid next - k)) (boundary_is at)
         ∙ ap (λ k. shown_below x (shown_below x d start n) (boundary_in old at) (k - boundary_in old at)) (boundary_is next)
@@ -294,9 +294,9 @@ module _ {S F : Type 0} (view : S → StorageView) (backing : F → BackingView)
     first_less : (o : ℕ) (w : Value) → IsGiven (given_below x d start n) o w → IsGiven (given_below x d start (boundary_in old next - boundary_in old size)) o w
     first_less o w is = let g = given_is x d start n o w is in given_as x d start (boundary_in old next - boundary_in old size) o w g.0 (let lt = g.1 in let e = all_of_it in omega (arith, lt, e)) g.2
 
-    second_less : (o : ℕ) (w : Value) → IsGiven (given_below (setting_of view backing mid) (disk_of view backing mid) (boundary_in mid at) (boundary_in mid next - boundary_in mid at)) o w → IsGiven (given_below x d start (boundary_in old next - boundary_in old size)) o w
+    second_less : (o : ℕ) (w : Value) → IsGiven (given_below (setting_of view backing mid) (disk_of view backing out.place mid) (boundary_in mid at) (boundary_in mid next - boundary_in mid at)) o w → IsGiven (given_below x d start (boundary_in old next - boundary_in old size)) o w
     second_less o w is =
-        let g = given_is (setting_of view backing mid) (disk_of view backing mid) (boundary_in mid at) (boundary_in mid next - boundary_in mid at) o w is in
+        let g = given_is (setting_of view backing mid) (disk_of view backing out.place mid) (boundary_in mid at) (boundary_in mid next - boundary_in mid at) o w is in
         let here = boundary_is at in
         let there = boundary_is next in
         given_as x d start (boundary_in old next - boundary_in old size) o w (let a = g.0 in omega (arith, a, here, le)) (let lt = g.1 in omega (arith, lt, here, there, le, on)) (g.2 ∙ ap (λ (s : Setting). known_byte (s.backing o)) setting_is)
@@ -314,9 +314,9 @@ module _ {S F : Type 0} (view : S → StorageView) (backing : F → BackingView)
         let gs = given_below x d start (boundary_in old next - boundary_in old size) in
         record {
           works = works_then v m w gs [] first.sound (works_less v m (given_below x d start n) gs [] (λ o z is. inr (first_less o z is)) (touches_part x.cluster_size _ _ _ _ (omega arith) (omega (arith, le, on))) first.works)
-              (works_less m w (given_below (setting_of view backing mid) (disk_of view backing mid) (boundary_in mid at) (boundary_in mid next - boundary_in mid at)) gs [] (λ o z is. inr (second_less o z is)) (touches_part (setting_of view backing mid).cluster_size _ _ _ _ (let here = boundary_is at in omega (arith, here, le)) (let here = boundary_is at in let there = boundary_is next in omega (arith, here, there, le, on))) second.works);
+              (works_less m w (given_below (setting_of view backing mid) (disk_of view backing out.place mid) (boundary_in mid at) (boundary_in mid next - boundary_in mid at)) gs [] (λ o z is. inr (second_less o z is)) (touches_part (setting_of view backing mid).cluster_size _ _ _ _ (let here = boundary_is at in omega (arith, here, le)) (let here = boundary_is at in let there = boundary_is next in omega (arith, here, there, le, on))) second.works);
           sound = second.sound;
-          shows = second.shows ∙ ap (λ (g : Guest). with_disk g (shown_below (setting_of view backing mid) (disk_of view backing mid) (boundary_in mid at) (boundary_in mid next - boundary_in mid at))) first.shows ∙ ap (λ e. with_disk (guest_of v) e) second_shows;
+          shows = second.shows ∙ ap (λ (g : Guest). with_disk g (shown_below (setting_of view backing mid) (disk_of view backing out.place mid) (boundary_in mid at) (boundary_in mid next - boundary_in mid at))) first.shows ∙ ap (λ e. with_disk (guest_of v) e) second_shows;
           covers = uncovers_more (boundary_in old size) (boundary_in old at) (boundary_in old next) old.file.header.fields mid.file.header.fields new.file.header.fields (known_in view old.file) (known_in view mid.file) (known_in view new.file) le on
               (ap (λ (s : Setting). s.cluster_size) setting_is) first.covers second_covers;
         }

@@ -1,8 +1,9 @@
 -- Where the bytes of a prepared mapping lie: each has an offset of its own in the file, outside of cluster 0.
 use Rattle.std.proofs.Common.{◌≡◌, ◌+◌, ◌/◌, ◌%◌, ◌<◌, ◌≤◌, inl, inr, ℕ, true, List, refl, sym, ap, ◌∙◌, subst, arith, Option, Some, None, get_or}
-use Rattle.qcow2_image.proofs.Common.{slice_get, div-eq_of_lt, cases_lt, pow_pos, slice_get-get_or, BackingView, StorageView, Bytes, HeaderFields, cluster_size, cover, in_cluster, named_for_tables, AreDataAt, Pending, Hosting, IsHostedAt, IsHeld, DriverState, in_own, beside_tables, shares, ClustersToFreeEntry, state_in, contents_in, known_in, Qcow2, Prepared, ClusterMapping, InPlace, Kept, New, to_free, of_data, new_data_by, pending_in, cluster_of, mapping_of_cluster, host_begin_of, IsNewAt, IsClusterMappingAt, IsPending, IsReadyWith, ImageInvariant}
+use Rattle.qcow2_image.proofs.Common.{slice_get, div-eq_of_lt, cases_lt, pow_pos, slice_get-get_or, BackingView, StorageView, Bytes, HeaderFields, cluster_size, cover, in_cluster, named_for_tables, AreDataAt, Pending, Hosting, IsHostedAt, IsHeld, DriverState, in_own, beside_tables, shares, ClustersToFreeEntry, state_in, contents_in, known_in, Qcow2, Prepared, ClusterMapping, InPlace, Kept, New, to_free, of_data, new_data_by, pending_in, cluster_of, mapping_of_cluster, host_begin_of, IsNewAt, IsClusterMappingAt, IsPending, IsReadyWith, ImageInvariant, Mappings, Image}
 use Rattle.qcow2_laws.specs.GuestLaws.{InPlace as HostedInPlace, Kept as HostedKept, Held as HostedHeld}
 use Rattle.qcow2_image.proofs.Images.ClusterMappings.{byte_cluster, byte_place, byte_of_mapping, new_data_at, new_data_once, host_cluster, no_cluster_mapping, over_all_at, mapping_here}
+use Rattle.qcow2_image.proofs.Images.Places.{inside_of, ready_inside}
 
 -- each byte of a guest cluster has a place of its own, by its cluster mapping
 abbrev pub hosted_as : Option ClusterMapping → Hosting
@@ -27,8 +28,8 @@ behind_tables h b place none = elim (cases_lt place (cluster_size h)) [
       absurd (omega (arith, s, one, here))
 ]
 
-module _ {S F : Type 0} (view : S → StorageView) (backing : F → BackingView) (old : Qcow2 S F) (out : List (Option Prepared)) (sound : ImageInvariant view backing (pending_in view backing old out) old out)
-    (n k : ℕ) (q : Prepared) (at : ℕ) (placed : slice_get out k ≡ Some (Some q)) (fits : at + n ≤ q.length) (in_place : q.table ≡ None → AreDataAt old.file.header.fields (known_in view old.file) true (q.guest + at) (q.offset + at) n) where
+module _ {S F : Type 0} (view : S → StorageView) (backing : F → BackingView) (old : Qcow2 S F) (out : Mappings) (sound : ImageInvariant view backing (pending_in view backing old out) old out)
+    (n k : ℕ) (q : Prepared) (at : ℕ) (placed : slice_get out.slots k ≡ Some (Some q)) (fits : at + n ≤ q.length) (in_place : q.table ≡ None → AreDataAt old.file.header.fields (known_in view old.file) true (q.guest + at) (q.offset + at) n) where
   abbrev before : Pending
   before = pending_in view backing old out
 
@@ -48,7 +49,7 @@ module _ {S F : Type 0} (view : S → StorageView) (backing : F → BackingView)
       let mine = new_data_at q.clusters.items j taken old_data is_cluster_mapping stands.first in
       omega (arith, one, mine)
 
-  hosted_mapping : (i j : ℕ) (cluster_mapping : ClusterMapping) → (q.guest + at + i) / size ≡ cluster_of h q + j → q.offset + at + i ≡ host_begin_of h q j + (q.guest + at + i) % size → slice_get q.clusters.items j ≡ Some cluster_mapping → IsClusterMappingAt h s.known s.on_storage q j cluster_mapping
+  hosted_mapping : (i j : ℕ) (cluster_mapping : ClusterMapping) → (q.guest + at + i) / size ≡ cluster_of h q + j → q.offset + at + i ≡ host_begin_of h q j + (q.guest + at + i) % size → slice_get q.clusters.items j ≡ Some cluster_mapping → IsClusterMappingAt h Image s.known s.on_storage q j cluster_mapping
       → IsHostedAt s (hosted_as (Some cluster_mapping)) (q.guest + at + i) (q.offset + at + i) × (IsHeld (hosted_as (Some cluster_mapping)) → 0 < new_data_by q ((q.offset + at + i) / size))
   hosted_mapping i j InPlace here place is_cluster_mapping stands = ((host_begin_of h q j, ap (cover h s.known) here ∙ stands, sym place), λ never. absurd never)
   hosted_mapping i j Kept here place is_cluster_mapping stands = ((host_begin_of h q j, ap (cover h s.known) here ∙ stands.entry, sym place), λ never. absurd never)
@@ -58,7 +59,7 @@ module _ {S F : Type 0} (view : S → StorageView) (backing : F → BackingView)
       let all = over_all_at new_data_by out k q placed stands.first in
       (subst (λ c. 0 < before.new_data c) (sym there) (omega (arith, mine, all)), λ _. subst (λ c. 0 < new_data_by q c) (sym there) mine)
 
-  hosts_pending : (t : ℕ) → IsPending h s.known s.on_storage q t → (i : ℕ) → i < n
+  hosts_pending : (t : ℕ) → IsPending h Image s.known s.on_storage q t → (i : ℕ) → i < n
       → IsHostedAt s (hosting_in h q (q.guest + at + i)) (q.guest + at + i) (q.offset + at + i) × (IsHeld (hosting_in h q (q.guest + at + i)) → 0 < new_data_by q ((q.offset + at + i) / size))
   hosts_pending t pending i lt =
       let j = (q.guest % size + at + i) / size in
@@ -68,7 +69,7 @@ module _ {S F : Type 0} (view : S → StorageView) (backing : F → BackingView)
       subst (λ (x : Option ClusterMapping). IsHostedAt s (hosted_as x) (q.guest + at + i) (q.offset + at + i) × (IsHeld (hosted_as x) → 0 < new_data_by q ((q.offset + at + i) / size)))
       (sym (ap (mapping_of_cluster h q) here ∙ mapping_here h q ((q.guest % size + at + i) / size) ∙ found)) (hosted_mapping i j cluster_mapping here (byte_place h q s.known s.on_storage t pending at i n fits lt) found (pending.each j cluster_mapping found))
 
-  pub hosted_with : (t : Option ℕ) → q.table ≡ t → IsReadyWith h s.known s.on_storage q t → (i : ℕ) → i < n
+  pub hosted_with : (t : Option ℕ) → q.table ≡ t → IsReadyWith h Image s.known s.on_storage q t → (i : ℕ) → i < n
       → IsHostedAt s (hosting_in h q (q.guest + at + i)) (q.guest + at + i) (q.offset + at + i) × (IsHeld (hosting_in h q (q.guest + at + i)) → 0 < new_data_by q ((q.offset + at + i) / size))
   hosted_with None none ready i lt =
       subst (λ (x : Option ClusterMapping). IsHostedAt s (hosted_as x) (q.guest + at + i) (q.offset + at + i) × (IsHeld (hosted_as x) → 0 < new_data_by q ((q.offset + at + i) / size)))
@@ -76,10 +77,10 @@ module _ {S F : Type 0} (view : S → StorageView) (backing : F → BackingView)
   hosted_with (Some t) some pending i lt = hosts_pending t pending i lt
 
   pub all_hosted : (i : ℕ) → i < n → IsHostedAt s (hosting_in h q (q.guest + at + i)) (q.guest + at + i) (q.offset + at + i)
-  all_hosted i lt = (hosted_with q.table refl (sound.ready k q placed).mapped i lt).0
+  all_hosted i lt = (hosted_with q.table refl (ready_inside sound k q placed) i lt).0
 
   pub hosts_no_table : (i : ℕ) → i < n → named_for_tables h (contents_in view old.file) ((q.offset + at + i) / size) ≡ 0
-  hosts_no_table i lt = beside_tables s (hosting_in h q (q.guest + at + i)) (q.guest + at + i) (q.offset + at + i) sound.file.caches.kept.kept.crash_invariant sound.inside (all_hosted i lt)
+  hosts_no_table i lt = beside_tables s (hosting_in h q (q.guest + at + i)) (q.guest + at + i) (q.offset + at + i) sound.file.caches.kept.kept.crash_invariant (inside_of sound) (all_hosted i lt)
 
   -- so do all of them
   pub hosts_behind_header : (i : ℕ) → i < n → cluster_size old.file.header.fields ≤ q.offset + at + i

@@ -1,6 +1,6 @@
 -- What a write into a prepared mapping does, from its parts.
 use Rattle.std.proofs.Common.{◌≡◌, ◌+◌, ◌/◌, ◌%◌, ◌≤◌, ◌∷◌, ⊎_elim, inl, inr, ℕ, Bool, true, false, List, length, [], refl, sym, ap, ◌∙◌, subst, arith, is_some, cond, Option, Some, None, Result, Ok, Err}
-use Rattle.qcow2_image.proofs.Common.{is_data_file, slice_get, BackingView, overwritten, StorageView, EachMomentSince, IsLeftBy, Bytes, byte_at, laid_over, HeaderFields, cluster_size, cover, L2Mapping, Data, Uncovered, AreDataAt, EffectOnSound, AnsweredEffect, storage, given_by_put, PreparedMapping, put_mapping, put_disk, GivenBytes, Guest, guest_of, meaning_at, run_data, works_less, works_then, ImageError, ImageStorage, storage_of, view_in, known_in, Qcow2, Prepared, raw, kind_at, IsMappedAs, put_guest, IsPut, IsWriteOutcome, PutsPart, ImageInvariant, pending_in, abstract_of, meaning, Puts, all_given_by_put, refusal_of, number_of, is_failed, cases_lt, cases_eq, cond-true, cond-false, eq-eqb, ne_eqb, known_byte, with_bytes, laid_outside, fun_ext}
+use Rattle.qcow2_image.proofs.Common.{is_data_file, slice_get, BackingView, overwritten, StorageView, EachMomentSince, IsLeftBy, Bytes, byte_at, laid_over, HeaderFields, cluster_size, cover, L2Mapping, Data, Uncovered, AreDataAt, EffectOnSound, AnsweredEffect, storage, given_by_put, PreparedMapping, put_mapping, put_disk, GivenBytes, Guest, guest_of, meaning_at, run_data, works_less, works_then, ImageError, ImageStorage, storage_of, view_in, known_in, Qcow2, Prepared, raw, kind_at, IsMappedAs, put_guest, IsPut, IsWriteOutcome, PutsPart, ImageInvariant, pending_in, abstract_of, meaning, Puts, all_given_by_put, refusal_of, number_of, is_failed, cases_lt, cases_eq, cond-true, cond-false, eq-eqb, ne_eqb, known_byte, with_bytes, laid_outside, fun_ext, Mappings}
 use Rattle.qcow2_alloc.specs.declared.error.ImageError.TheVariants as I
 use Rattle.qcow2_image.specs.declared.mapping.MappingKind.TheVariants as Kind
 use Rattle.qcow2_image.proofs.Lemmas.{Quietly, quiet_works, quiet_sound, quiet_same, works_none, outcome_answered, outcome_refused, same_guest, MayMarkBy, still_moved}
@@ -17,9 +17,9 @@ mapped_data h known offset n host external backed (Data start copied) is kind gi
 mapped_data h known offset n host external true Uncovered is kind given = absurd cc
 mapped_data h known offset n host external backed v is kind given = absurd cc
 
-module _ {S F : Type 0} (view : S → StorageView) (backing : F → BackingView) (out : List (Option Prepared)) (k : ℕ) (p : Prepared) (at : ℕ) (bytes : List ℕ) (placed : slice_get out k ≡ Some (Some p)) where
+module _ {S F : Type 0} (view : S → StorageView) (backing : F → BackingView) (out : Mappings) (k : ℕ) (p : Prepared) (at : ℕ) (bytes : List ℕ) (placed : slice_get out.slots k ≡ Some (Some p)) where
   abbrev given_bytes : Qcow2 S F → List GivenBytes
-  given_bytes image = all_given_by_put view backing image image (abstract_of view backing image out) p at bytes
+  given_bytes image = all_given_by_put view backing image image out.place (abstract_of view backing image out) p at bytes
 
   -- nothing was done
   pub puts_nothing : (old : Qcow2 S F) (e : ImageError) → ImageInvariant view backing (pending_in view backing old out) old out → PutsPart view backing old old out k p at bytes (Err e)
@@ -43,18 +43,18 @@ module _ {S F : Type 0} (view : S → StorageView) (backing : F → BackingView)
   puts_then a b c r quiet sound part =
       let same = quiet_same view backing out a b (λ _. quiet) sound in
       let mid = quiet_sound view backing out a b (λ _. quiet) sound in
-      let at_place : (image : Qcow2 S F) → (guest_of (abstract_of view backing image out)).slots k ≡ Some (meaning view backing image p) = λ image. ap (meaning_at (meaning view backing image)) placed in
-      let means : Some (meaning view backing b p) ≡ Some (meaning view backing a p) = sym (at_place b) ∙ ap (λ (g : Guest). g.slots k) same ∙ at_place a in
-      let mean : meaning view backing b p ≡ meaning view backing a p = cc in
-      let gives : given_bytes b ≡ given_bytes a = ap (λ (g : Guest). given_by_put g.disk (meaning view backing b p) at bytes ∷ []) same ∙ ap (λ (m : PreparedMapping). given_by_put (guest_of (abstract_of view backing a out)).disk m at bytes ∷ []) mean in
+      let at_place : (image : Qcow2 S F) → (guest_of (abstract_of view backing image out)).slots k ≡ Some (meaning view backing out.place image p) = λ image. ap (meaning_at (meaning view backing out.place image)) placed in
+      let means : Some (meaning view backing out.place b p) ≡ Some (meaning view backing out.place a p) = sym (at_place b) ∙ ap (λ (g : Guest). g.slots k) same ∙ at_place a in
+      let mean : meaning view backing out.place b p ≡ meaning view backing out.place a p = cc in
+      let gives : given_bytes b ≡ given_bytes a = ap (λ (g : Guest). given_by_put g.disk (meaning view backing out.place b p) at bytes ∷ []) same ∙ ap (λ (m : PreparedMapping). given_by_put (guest_of (abstract_of view backing a out)).disk m at bytes ∷ []) mean in
       record {
         works = works_then (abstract_of view backing a out) (abstract_of view backing b out) (abstract_of view backing c out) (given_bytes a) [] mid
             (works_less (abstract_of view backing a out) (abstract_of view backing b out) [] (given_bytes a) [] (λ o v none. absurd none) (λ g u. tt) (quiet_works view backing out a b (λ _. quiet) sound))
             (subst (λ (given : List GivenBytes). EffectOnSound (abstract_of view backing b out) (abstract_of view backing c out) given []) gives part.works);
         sound = part.sound;
-        is = is_put_of (guest_of (abstract_of view backing a out)) (guest_of (abstract_of view backing b out)) (put_guest (guest_of (abstract_of view backing a out)) k (meaning view backing a p) at bytes)
-            (put_guest (guest_of (abstract_of view backing b out)) k (meaning view backing b p) at bytes) (guest_of (abstract_of view backing c out)) r same
-            (ap (λ g. put_guest g k (meaning view backing b p) at bytes) same ∙ ap (λ m. put_guest (guest_of (abstract_of view backing a out)) k m at bytes) mean) part.is;
+        is = is_put_of (guest_of (abstract_of view backing a out)) (guest_of (abstract_of view backing b out)) (put_guest (guest_of (abstract_of view backing a out)) k (meaning view backing out.place a p) at bytes)
+            (put_guest (guest_of (abstract_of view backing b out)) k (meaning view backing out.place b p) at bytes) (guest_of (abstract_of view backing c out)) r same
+            (ap (λ g. put_guest g k (meaning view backing out.place b p) at bytes) same ∙ ap (λ m. put_guest (guest_of (abstract_of view backing a out)) k m at bytes) mean) part.is;
       }
 
   -- what is mapped in place is data in a row
@@ -77,7 +77,7 @@ module _ {S F : Type 0} (view : S → StorageView) (backing : F → BackingView)
       -- it is there
       puts_changed : (view (storage_of storage)).contents ≡ overwritten (view_in view old.file).contents (p.offset + at) bytes
           → EffectOnSound (abstract_of view backing old out) (abstract_of view backing new out) (given_bytes old) [] × ImageInvariant view backing (pending_in view backing new out) new out
-          × (guest_of (abstract_of view backing new out) ≡ put_guest (guest_of (abstract_of view backing old out)) k (meaning view backing old p) at bytes)
+          × (guest_of (abstract_of view backing new out) ≡ put_guest (guest_of (abstract_of view backing old out)) k (meaning view backing out.place old p) at bytes)
       puts_changed is = (
         put_works view backing old out sound storage bytes k p at is honest time placed fits in_place,
         put_sound view backing old out sound storage bytes k p at is honest time placed fits in_place,
@@ -145,24 +145,24 @@ module _ {S F : Type 0} (view : S → StorageView) (backing : F → BackingView)
   pub puts_none : bytes ≡ [] → (done : Unit {0}) → Puts view backing old old p at bytes (Ok done)
   puts_none none done = λ out k placed.
       let v = abstract_of view backing old out in
-      outcome_answered view backing old old out out (all_given_by_put view backing old old v p at bytes)
-      (λ sound. works_less v v [] (all_given_by_put view backing old old v p at bytes) [] (λ o w never. absurd never) (λ g u. tt) (works_none v sound)) (λ sound. sound) refl usable
-      (λ sound. sym (ap (λ b. put_guest (guest_of v) k (meaning view backing old p) at b) none ∙ put_none (guest_of v) k (meaning view backing old p) at (ap (meaning_at (meaning view backing old)) placed)))
+      outcome_answered view backing old old out out (all_given_by_put view backing old old out.place v p at bytes)
+      (λ sound. works_less v v [] (all_given_by_put view backing old old out.place v p at bytes) [] (λ o w never. absurd never) (λ g u. tt) (works_none v sound)) (λ sound. sound) refl usable
+      (λ sound. sym (ap (λ b. put_guest (guest_of v) k (meaning view backing out.place old p) at b) none ∙ put_none (guest_of v) k (meaning view backing out.place old p) at (ap (meaning_at (meaning view backing out.place old)) placed)))
 
   -- refused before any work
   pub puts_early : (e : ImageError) → (refusal_of e ≡ storage → ⊥) → Puts view backing old old p at bytes (Err e)
   puts_early e other = λ out k placed.
       let v = abstract_of view backing old out in
-      record { acts = acts_none v (all_given_by_put view backing old old v p at bytes) []; answer = λ sound. inl (sound, refl); fault = λ is. absurd (other is) }
+      record { acts = acts_none v (all_given_by_put view backing old old out.place v p at bytes) []; answer = λ sound. inl (sound, refl); fault = λ is. absurd (other is) }
 
   module _ (new : Qcow2 S F) (marked : Bool) (number : number_of new ≡ number_of old) where
     pub puts_with_outcome : (r : Result (Unit {0}) ImageError) → MayMarkBy r (is_failed new) marked
-        → ((out : List (Option Prepared)) (k : ℕ) → slice_get out k ≡ Some (Some p) → ImageInvariant view backing (pending_in view backing old out) old out → PutsPart view backing old new out k p at bytes r)
+        → ((out : Mappings) (k : ℕ) → slice_get out.slots k ≡ Some (Some p) → ImageInvariant view backing (pending_in view backing old out) old out → PutsPart view backing old new out k p at bytes r)
         → Puts view backing old (record new { is_failed = marked }) p at bytes r
     puts_with_outcome (Ok done) marks part = λ out k placed.
         subst (λ (f : Bool). let v = abstract_of view backing old out in let w = abstract_of view backing (record new { is_failed = f }) out in
-        AnsweredEffect v w (all_given_by_put view backing old new v p at bytes) [] (guest_of w ≡ put_guest (guest_of v) k (meaning view backing old p) at bytes)) (sym marks)
-        (outcome_answered view backing old new out out (all_given_by_put view backing old new (abstract_of view backing old out) p at bytes) (λ sound. (part out k placed sound).works) (λ sound. (part out k placed sound).sound) number usable (λ sound. (part out k placed sound).is))
+        AnsweredEffect v w (all_given_by_put view backing old new out.place v p at bytes) [] (guest_of w ≡ put_guest (guest_of v) k (meaning view backing out.place old p) at bytes)) (sym marks)
+        (outcome_answered view backing old new out out (all_given_by_put view backing old new out.place (abstract_of view backing old out) p at bytes) (λ sound. (part out k placed sound).works) (λ sound. (part out k placed sound).sound) number usable (λ sound. (part out k placed sound).is))
     puts_with_outcome (Err e) marks part = λ out k placed.
-        outcome_refused view backing old new out out (all_given_by_put view backing old new (abstract_of view backing old out) p at bytes) (λ sound. (part out k placed sound).works) (λ sound. (part out k placed sound).sound) number usable marked e marks
+        outcome_refused view backing old new out out (all_given_by_put view backing old new out.place (abstract_of view backing old out) p at bytes) (λ sound. (part out k placed sound).works) (λ sound. (part out k placed sound).sound) number usable marked e marks
         (λ sound. (part out k placed sound).is)

@@ -1,7 +1,7 @@
 -- The single write of a put, and what the put leaves before it.
 use Rattle.std.proofs.Common.{◌≡◌, ◌+◌, ℕ, Bool, List, [], Option, Some, None, IsSome, IsSomeAnd, Result, Ok, Err, IfErr, IfSome, inl, inr, refl, sym, ap, ◌∙◌, subst}
 use Rattle.qcow2_image.specs.CallParts.{HasChanged, WritesBeside}
-use Rattle.qcow2_image.proofs.Common.{BackingView, overwritten, StorageView, passes_none, ImageError, view_in, changes_of, Qcow2, Prepared, IsWriteOutcome, InternalCall, IsBegun, storage_of_image, ImageInvariant, abstract_of, pending_in, PutsOnce, offset_of, table_of, InternalFillingStep, InternalStep, Pending, LooksQuietly, IsSpecial, MappingKind, MayFail, MayFailWriting}
+use Rattle.qcow2_image.proofs.Common.{BackingView, overwritten, StorageView, passes_none, ImageError, view_in, changes_of, Qcow2, Prepared, IsWriteOutcome, InternalCall, IsBegun, storage_of_image, ImageInvariant, abstract_of, pending_in, PutsOnce, offset_of, table_of, InternalFillingStep, InternalStep, Pending, LooksQuietly, IsSpecial, MappingKind, MayFail, MayFailWriting, Mappings}
 use Rattle.qcow2_image.proofs.Call.FailingErrors.{writing_met}
 use Rattle.qcow2_alloc.specs.declared.error.ImageError.TheVariants as I
 use Rattle.qcow2_image.proofs.Lemmas.{Quietly, listed, image_step_stays, stays_kept, stays_then, image_step_none, listed_after_same, looks_none, looks_begun}
@@ -22,14 +22,14 @@ written_plain kind (Err e) why is =
     ]
 
 -- a call that changes nothing
-pub unseen_none : {S F : Type 0} (view : S → StorageView) (backing : F → BackingView) (image : Qcow2 S F) (out : List (Option Prepared)) → ImageInvariant view backing (pending_in view backing image out) image out → InternalCall view backing image image out
+pub unseen_none : {S F : Type 0} (view : S → StorageView) (backing : F → BackingView) (image : Qcow2 S F) (out : Mappings) → ImageInvariant view backing (pending_in view backing image out) image out → InternalCall view backing image image out
 unseen_none view backing image out sound =
     let p = pending_in view backing image out in
     image_step_stays view backing out image image sound (subst (λ q. InternalFillingStep view backing p q image image out) (sym (listed_after_same view backing out p image image refl)) (image_step_none view backing out image p sound))
 
 -- a part that keeps what is known, and lists nothing
-pub checked_unseen : {S F : Type 0} (view : S → StorageView) (backing : F → BackingView) (old now : Qcow2 S F) (out : List (Option Prepared))
-    → ((p : Pending) (out : List (Option Prepared)) → ImageInvariant view backing p old out → InternalStep view backing p p old now out) → now.file.free_list ≡ old.file.free_list → ImageInvariant view backing (pending_in view backing old out) old out → InternalCall view backing old now out
+pub checked_unseen : {S F : Type 0} (view : S → StorageView) (backing : F → BackingView) (old now : Qcow2 S F) (out : Mappings)
+    → ((p : Pending) (out : Mappings) → ImageInvariant view backing p old out → InternalStep view backing p p old now out) → now.file.free_list ≡ old.file.free_list → ImageInvariant view backing (pending_in view backing old out) old out → InternalCall view backing old now out
 checked_unseen view backing old now out keeps list sound =
     let quiet : Quietly view backing out old now = record { keeps = keeps (pending_in view backing old out) out sound; list = list } in
     stays_kept view backing out old now sound (listed view backing out old now (λ _. quiet) sound)
@@ -54,7 +54,7 @@ put_beside view file mid new host place bytes result same here writes =
 module _ {S F : Type 0} (view : S → StorageView) (backing : F → BackingView) (p : Prepared) (at : ℕ) (bytes : List ℕ) where
   -- what no guest sees of a part, on a sound image
   abbrev IsInternal : Qcow2 S F → Qcow2 S F → Type 0
-  IsInternal old now = (out : List (Option Prepared)) → (abstract_of view backing old out).is_sound → InternalCall view backing old now out
+  IsInternal old now = (out : Mappings) → (abstract_of view backing old out).is_sound → InternalCall view backing old now out
 
   -- a data file that stays the same after a refusal, and after a write of no bytes
   file_unchanged : (old now : Option S) (e : ImageError) → now ≡ old → IfSome old (λ was. IsSomeAnd now (HasChanged view was (λ b. overwritten b (offset_of p + at) bytes) (Err e)))

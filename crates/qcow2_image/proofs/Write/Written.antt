@@ -1,6 +1,6 @@
 -- Bytes are written where no table lies: in place over data, or to the private cluster of a prepared mapping.
 use Rattle.std.proofs.Common.{◌≡◌, ◌⊎◌, ◌+◌, ◌-◌, ◌/◌, ◌<◌, inl, inr, ℕ, List, length, [], refl, sym, ap, ◌∙◌, subst, arith, Option}
-use Rattle.qcow2_image.proofs.Common.{IfSome, cases_lt, BackingView, overwritten, StorageView, EachMomentSince, IsLeftBy, byte_at-overwritten, Bytes, byte_at, HeaderFields, cluster_size, named_for_tables, Pending, SameIn, SameCovers, SafeStep, SafeThroughout, GivenBytes, l1_entry, IsSameBut, WritesAt, overwritten_but, unnamed_free_l2, unnamed_free_rb, data_safe_throughout, Allocator, ImageStorage, storage_of, order_of, l2_tables, refblocks, state_in, view_in, contents_in, known_in, IsAllocatorOf, allocator_kept, file_invariant_of, Qcow2, Prepared, cluster_of, pending_in, ImageInvariant, backing_bytes}
+use Rattle.qcow2_image.proofs.Common.{IfSome, cases_lt, BackingView, overwritten, StorageView, EachMomentSince, IsLeftBy, byte_at-overwritten, Bytes, byte_at, HeaderFields, cluster_size, named_for_tables, Pending, SameIn, SameCovers, SafeStep, SafeThroughout, GivenBytes, l1_entry, IsSameBut, WritesAt, overwritten_but, unnamed_free_l2, unnamed_free_rb, data_safe_throughout, Allocator, ImageStorage, storage_of, order_of, l2_tables, refblocks, state_in, view_in, contents_in, known_in, IsAllocatorOf, allocator_kept, file_invariant_of, Qcow2, Prepared, cluster_of, pending_in, ImageInvariant, backing_bytes, Mappings}
 use Rattle.qcow2_laws.proofs.KeptSteps.{known_beside, still_agree}
 use Rattle.qcow2_alloc.proofs.KeptTables.Beside.{top_beside, named_blocks_beside_write, sound_beside}
 use Rattle.qcow2_alloc.proofs.CountsStay.{counts_follow, fixed_more}
@@ -8,7 +8,7 @@ use Rattle.qcow2_image.proofs.Images.Ready.{still_ready}
 use Rattle.qcow2_image.proofs.Call.Stepped.{Steps}
 use Rattle.qcow2_image.proofs.Images.UngivenCovers.{all_stay}
 
-module _ {S F : Type 0} {p : Pending} (view : S → StorageView) (backing : F → BackingView) (old : Qcow2 S F) (out : List (Option Prepared)) (sound : ImageInvariant view backing p old out)
+module _ {S F : Type 0} {p : Pending} (view : S → StorageView) (backing : F → BackingView) (old : Qcow2 S F) (out : Mappings) (sound : ImageInvariant view backing p old out)
     (storage : ImageStorage S) (host : ℕ) (bytes : List ℕ) (is : (view (storage_of storage)).contents ≡ overwritten (view_in view old.file).contents host bytes) where
   abbrev pub written : Qcow2 S F
   written = record old { file = record old.file { storage = storage } }
@@ -83,12 +83,11 @@ module _ {S F : Type 0} {p : Pending} (view : S → StorageView) (backing : F �
                 sound.file.room;
             l1_table = record { cluster = sound.l1_table.cluster; bits = sound.l1_table.bits; count = sound.l1_table.count; entries = λ i. sound.l1_table.entries i ∙ top.l1 i };
             reftable = reftable_written old.allocator sound.reftable;
-            inside = sound.inside;
-            alone = sound.alone;
+            stands = sound.stands;
             below = sound.below;
             ready = λ k q at. let r = sound.ready k q at in record {
               own = r.own;
-              mapped = still_ready h (known_in view old.file) (contents_in view old.file) (known_in view written.file) (contents_in view written.file) q
+              mapped = still_ready h out.place (known_in view old.file) (contents_in view old.file) (known_in view written.file) (contents_in view written.file) q
                   sound.file.caches.kept.kept.crash_invariant.same_top.l1 safe_step.sound.same_top.l1 (λ i copied. sym (top.l1 i)) (λ i. covers (cluster_of h q + i)) q.table r.mapped;
             };
             pinned = sound.pinned;
@@ -102,7 +101,7 @@ module _ {S F : Type 0} {p : Pending} (view : S → StorageView) (backing : F �
       same_l1_written i = sym ((top_beside h p p old.file.caches (contents_in view old.file) (contents_in view written.file) sound.file.caches sound.file.named_blocks tables_stay).l1 i)
 
 -- so where nothing but what mappings hold and what is to be freed is pending
-pub steps_written : {S F : Type 0} (view : S → StorageView) (backing : F → BackingView) (old : Qcow2 S F) (out : List (Option Prepared)) (sound : ImageInvariant view backing (pending_in view backing old out) old out)
+pub steps_written : {S F : Type 0} (view : S → StorageView) (backing : F → BackingView) (old : Qcow2 S F) (out : Mappings) (sound : ImageInvariant view backing (pending_in view backing old out) old out)
     (storage : ImageStorage S) (host : ℕ) (bytes : List ℕ) (is : (view (storage_of storage)).contents ≡ overwritten (view_in view old.file).contents host bytes)
     (free : (i : ℕ) → i < length bytes → named_for_tables old.file.header.fields (contents_in view old.file) ((host + i) / cluster_size old.file.header.fields) ≡ 0)
     (given : Bytes → List GivenBytes) (honest : (view (storage_of storage)).is_honest) (time : EachMomentSince (view_in view old.file) (view (storage_of storage)) (IsLeftBy (view (storage_of storage))))

@@ -4,6 +4,7 @@ use Rattle.qcow2_session.proofs.Turns.{refused_is}
 use Rattle.program_parts.proofs.Making.{once_imported, while_imported}
 use Rattle.program_parts.proofs.Refused.{may_be_read, met_importing}
 use Rattle.program_parts.proofs.conversions.fill.Goals as goal
+use Rattle.qcow2_image.specs.ImageInvariant.{in_image}
 
 pub returns-in_err-count-clause-faults : goal.returns-in_err-count-clause-faults
 returns-in_err-count-clause-faults g c =
@@ -50,21 +51,21 @@ pub returns-in_err-count-clause-may_fail : goal.returns-in_err-count-clause-may_
 returns-in_err-count-clause-may_fail g c = λ honest same opened.
     let view = g.S.Storage.view in
     let e = c.in_err-count.field-0.0 in
-    let may_fail = MayFailImporting view 0 (size_of c.args.image.now) c.to_qcow2.new.image [] in
+    let may_fail = MayFailImporting view 0 (size_of c.args.image.now) c.to_qcow2.new.image (in_image []) in
     given_err _ e may_fail c.from_residual.ensures
-    (met_importing may_fail c.to_qcow2.result e c.in_err-count.was same (c.to_qcow2.ensures.fails.option honest) (c.to_qcow2.ensures.fails.may_fail (may_be_read view g.F.BackingDisk.backing c.args.image.now opened) [] opened.sound))
+    (met_importing may_fail c.to_qcow2.result e c.in_err-count.was same (c.to_qcow2.ensures.fails.option honest) (c.to_qcow2.ensures.fails.may_fail (may_be_read view g.F.BackingDisk.backing c.args.image.now opened) (in_image []) opened.sound))
 
 pub returns-in_err-size-clause-may_fail : goal.returns-in_err-size-clause-may_fail
 returns-in_err-size-clause-may_fail g c = λ honest same opened.
-    given_err _ (of_storage c.in_err-size.field-0.0) (MayFailImporting g.S.Storage.view 0 (size_of c.args.image.now) c.to_qcow2.new.image []) c.from_residual-in_err-size.ensures (inl (inl (fault_of_storage c.in_err-size.field-0.0)))
+    given_err _ (of_storage c.in_err-size.field-0.0) (MayFailImporting g.S.Storage.view 0 (size_of c.args.image.now) c.to_qcow2.new.image (in_image [])) c.from_residual-in_err-size.ensures (inl (inl (fault_of_storage c.in_err-size.field-0.0)))
 
 pub returns-then-branch-count-clause-may_fail : goal.returns-then-branch-count-clause-may_fail
 returns-then-branch-count-clause-may_fail g c = λ honest same opened.
     let left = c.to_qcow2.ensures.step.raw_left honest in
-    absurd (c.if-branch-count.true (c.in_ok-size.ensures.size left.0 ∙ ap length left.1 ∙ sym (((c.in_ok-count.ensures.sees honest []).answer opened.sound).1.0)))
+    absurd (c.if-branch-count.true (c.in_ok-size.ensures.size left.0 ∙ ap length left.1 ∙ sym (((c.in_ok-count.ensures.sees honest (in_image [])).answer opened.sound).1.0)))
 
 pub returns-clause-count : goal.returns-clause-count
 returns-clause-count g c = record {
   raw_disk = λ honest. let left = c.to_qcow2.ensures.step.raw_left honest in sym c.if-branch-count.false ∙ c.in_ok-size.ensures.size left.0 ∙ ap length left.1;
-  disk = λ opened. let any = c.in_ok-count.ensures.any in ((any.2 []).answer opened.sound).1.0 ∙ any.1;
+  disk = λ opened. let any = c.in_ok-count.ensures.any in ((any.2 (in_image [])).answer opened.sound).1.0 ∙ any.1;
 }

@@ -4,6 +4,7 @@ use Rattle.program_parts.proofs.Imported.{ok_then}
 use Rattle.program_parts.proofs.Exported.{keeps_itself, opened_quietly, once_flushed, has_export, keeps_disk}
 use Rattle.program_parts.proofs.Refused.{may_be_read, met_disks, met_exporting}
 use Rattle.program_parts.proofs.conversions.make_raw_disk.Goals as goal
+use Rattle.qcow2_image.specs.ImageInvariant.{in_image}
 
 pub returns-in-Ok-clause-raw : goal.returns-in-Ok-clause-raw
 returns-in-Ok-clause-raw g c = λ raw_honest honest consistent.
@@ -64,7 +65,7 @@ returns-in-Ok-clause-cause g c = λ honest.
     met_exporting contents c.args.raw.now _ c.to_raw-copied.result c.flushed-exported.result (c.in-Ok.ensures.step.cause honest) c.flushed-exported.ensures.cause c.to_raw-copied.ensures.cause
     (λ consistent.
     let opened = (c.in-Ok.ensures.opens honest consistent).opened in
-    met_disks view _ c.in-Ok.image opened contents (c.in-Ok.ensures.step.storage.contents honest).contents c.to_raw-copied.result (c.to_raw-copied.ensures.may_fail (may_be_read view _ c.in-Ok.image opened) [] opened.sound))
+    met_disks view _ c.in-Ok.image opened contents (c.in-Ok.ensures.step.storage.contents honest).contents c.to_raw-copied.result (c.to_raw-copied.ensures.may_fail (may_be_read view _ c.in-Ok.image opened) (in_image []) opened.sound))
 
 pub returns-in-Ok-clause-another : goal.returns-in-Ok-clause-another
 returns-in-Ok-clause-another g c = λ honest needs. absurd (c.in-Ok.ensures.step.another honest needs).0

@@ -4,10 +4,11 @@ use Rattle.std.proofs.lemmas.Nat.{pow_pos}
 use Rattle.qcow2_disk.specs.AbstractImages.{Guest}
 use Rattle.qcow2_image.proofs.Images.Sizes.{disk_size}
 use Rattle.qcow2_image.specs.Clearing.{setting_of}
-use Rattle.qcow2_image.specs.ImageInvariant.{disk_of}
+use Rattle.qcow2_image.specs.ImageInvariant.{disk_of, in_image}
 use Rattle.program_parts.specs.Resizing.{IsResizedDisk}
 use Rattle.program_parts.proofs.Resized.{beyond_shrink, beyond_shrunk, moments_first, moments_then, resized_smaller}
 use Rattle.program_parts.proofs.resizing.shrink_to.Goals as goal
+use Rattle.qcow2_image.specs.declared.mapping.Place.TheVariants.{Image}
 
 pub returns-clause-done : goal.returns-clause-done
 returns-clause-done g c = λ mode out sound.
@@ -27,13 +28,13 @@ returns-clause-done g c = λ mode out sound.
 
 pub returns-clause-moments : goal.returns-clause-moments
 returns-clause-moments g c = λ opened.
-    let first = c.in_ok-resize_shrink.ensures.sees [] in
-    moments_then g.S.Storage.view g.F.BackingDisk.backing c.args.image.now c.resize_shrink.new.self _ c.args.size opened (beyond_shrunk (setting_of g.S.Storage.view g.F.BackingDisk.backing c.args.image.now) (disk_of g.S.Storage.view g.F.BackingDisk.backing c.args.image.now) c.args.size (pow_pos c.args.image.now.file.header.fields.cluster_bits) c.in_ok-resize_shrink.field-0) first.acts c.flush.new.self (first.answer opened.sound).0 (c.in_ok-flush.ensures.sees []).acts
+    let first = c.in_ok-resize_shrink.ensures.sees (in_image []) in
+    moments_then g.S.Storage.view g.F.BackingDisk.backing c.args.image.now c.resize_shrink.new.self _ c.args.size opened (beyond_shrunk (setting_of g.S.Storage.view g.F.BackingDisk.backing c.args.image.now) (disk_of g.S.Storage.view g.F.BackingDisk.backing Image c.args.image.now) c.args.size (pow_pos c.args.image.now.file.header.fields.cluster_bits) c.in_ok-resize_shrink.field-0) first.acts c.flush.new.self (first.answer opened.sound).0 (c.in_ok-flush.ensures.sees (in_image [])).acts
 
 pub returns-in_err-flush-clause-moments : goal.returns-in_err-flush-clause-moments
 returns-in_err-flush-clause-moments g c = λ opened.
-    let first = c.in_ok-resize_shrink.ensures.sees [] in
-    moments_then g.S.Storage.view g.F.BackingDisk.backing c.args.image.now c.resize_shrink.new.self _ c.args.size opened (beyond_shrunk (setting_of g.S.Storage.view g.F.BackingDisk.backing c.args.image.now) (disk_of g.S.Storage.view g.F.BackingDisk.backing c.args.image.now) c.args.size (pow_pos c.args.image.now.file.header.fields.cluster_bits) c.in_ok-resize_shrink.field-0) first.acts c.flush.new.self (first.answer opened.sound).0 (c.in_err-flush.ensures.sees []).acts
+    let first = c.in_ok-resize_shrink.ensures.sees (in_image []) in
+    moments_then g.S.Storage.view g.F.BackingDisk.backing c.args.image.now c.resize_shrink.new.self _ c.args.size opened (beyond_shrunk (setting_of g.S.Storage.view g.F.BackingDisk.backing c.args.image.now) (disk_of g.S.Storage.view g.F.BackingDisk.backing Image c.args.image.now) c.args.size (pow_pos c.args.image.now.file.header.fields.cluster_bits) c.in_ok-resize_shrink.field-0) first.acts c.flush.new.self (first.answer opened.sound).0 (c.in_err-flush.ensures.sees (in_image [])).acts
 
 pub returns-in_err-resize_shrink-clause-moments : goal.returns-in_err-resize_shrink-clause-moments
-returns-in_err-resize_shrink-clause-moments g c = λ opened. moments_first g.S.Storage.view g.F.BackingDisk.backing c.args.image.now c.resize_shrink.new.self _ c.args.size opened (beyond_shrink (setting_of g.S.Storage.view g.F.BackingDisk.backing c.args.image.now) (disk_of g.S.Storage.view g.F.BackingDisk.backing c.args.image.now) c.args.size (pow_pos c.args.image.now.file.header.fields.cluster_bits)) (c.in_err-resize_shrink.ensures.sees []).acts
+returns-in_err-resize_shrink-clause-moments g c = λ opened. moments_first g.S.Storage.view g.F.BackingDisk.backing c.args.image.now c.resize_shrink.new.self _ c.args.size opened (beyond_shrink (setting_of g.S.Storage.view g.F.BackingDisk.backing c.args.image.now) (disk_of g.S.Storage.view g.F.BackingDisk.backing Image c.args.image.now) c.args.size (pow_pos c.args.image.now.file.header.fields.cluster_bits)) (c.in_err-resize_shrink.ensures.sees (in_image [])).acts

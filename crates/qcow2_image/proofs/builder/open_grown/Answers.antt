@@ -1,5 +1,5 @@
 use Rattle.std.proofs.Common.{◌≡◌, [], None, Ok, inr, subst, sym}
-use Rattle.qcow2_image.proofs.Common.{option_flatten, IsHonestBacking, Opens, IsNewlyOpened, OpeningStep, files_missing, Qcow2OpenBuilder}
+use Rattle.qcow2_image.proofs.Common.{option_flatten, IsHonestBacking, Opens, IsNewlyOpened, OpeningStep, files_missing, Qcow2OpenBuilder, in_image}
 use Rattle.qcow2_image.proofs.builder.open_grown.Goals as goal
 
 pub returns-in-Ok-resize_grow-clause-opens : goal.returns-in-Ok-resize_grow-clause-opens
@@ -15,9 +15,9 @@ returns-in-Ok-resize_grow-clause-opens g c =
       beside = subst (λ (b : Qcow2OpenBuilder _ _). image.data_file ≡ option_flatten b.data_file) c.write.ensures c.in-Ok.ensures.over.1;
       step = subst (λ (b : Qcow2OpenBuilder _ _). OpeningStep view (view b.image) b.writable (files_missing b.backing b.data_file) (Ok image)) c.write.ensures c.in-Ok.ensures.step;
       opens = subst (λ (b : Qcow2OpenBuilder _ _). IsHonestBacking view below (option_flatten b.backing) → option_flatten b.data_file ≡ None → Opens view below (view b.image) image) c.write.ensures c.in-Ok.ensures.opens;
-      takes = record { no_larger = does.no_larger; image = does.image; sees = does.sees; tables = λ usable lt sound. (does.sound [] sound).tables usable lt; last = (λ sound. (does.sound [] sound).last) };
+      takes = record { no_larger = does.no_larger; image = does.image; sees = does.sees; tables = λ usable lt sound. (does.sound (in_image []) sound).tables usable lt; last = (λ sound. (does.sound (in_image []) sound).last) };
       marks = does.step;
-      may_fail = λ usable lt sound. (does.sound [] sound).may_fail usable lt;
+      may_fail = λ usable lt sound. (does.sound (in_image []) sound).may_fail usable lt;
     }
 
 pub returns-in-Err-resize_grow-clause-refused : goal.returns-in-Err-resize_grow-clause-refused
@@ -36,8 +36,8 @@ returns-in-Err-resize_grow-clause-refused g c =
         beside = subst (λ (b : Qcow2OpenBuilder _ _). image.data_file ≡ option_flatten b.data_file) c.write.ensures c.in-Ok.ensures.over.1;
         step = subst (λ (b : Qcow2OpenBuilder _ _). OpeningStep view (view b.image) b.writable (files_missing b.backing b.data_file) (Ok image)) c.write.ensures c.in-Ok.ensures.step;
         opens = subst (λ (b : Qcow2OpenBuilder _ _). IsHonestBacking view below (option_flatten b.backing) → option_flatten b.data_file ≡ None → Opens view below (view b.image) image) c.write.ensures c.in-Ok.ensures.opens;
-        takes = record { no_larger = does.no_larger; image = does.image; sees = does.sees; tables = λ usable lt sound. (does.sound [] sound).tables usable lt; last = (λ sound. (does.sound [] sound).last) };
+        takes = record { no_larger = does.no_larger; image = does.image; sees = does.sees; tables = λ usable lt sound. (does.sound (in_image []) sound).tables usable lt; last = (λ sound. (does.sound (in_image []) sound).last) };
         marks = does.step;
-        may_fail = λ usable lt sound. (does.sound [] sound).may_fail usable lt;
+        may_fail = λ usable lt sound. (does.sound (in_image []) sound).may_fail usable lt;
       },
     )

@@ -1,5 +1,5 @@
 use Rattle.std.proofs.Common.{◌≡◌, ◌-◌, ◌≤◌, [], List, Option}
-use Rattle.qcow2_session.proofs.Common.{AnsweredEffect, guest_of, PreservesHeaderCluster, IsSameImage, abstract_of, Prepared, Fills, ReadsQuietly}
+use Rattle.qcow2_session.proofs.Common.{AnsweredEffect, guest_of, PreservesHeaderCluster, IsSameImage, abstract_of, Prepared, Fills, ReadsQuietly, Mappings}
 use Rattle.qcow2_session.proofs.Counting.{IsSoFar}
 use Rattle.qcow2_session.proofs.convert.export_all.Given as goal
 
@@ -12,7 +12,7 @@ invariant-loop-at g l = record {
   image : IsSameImage l.fn.image l.image;
   quiet : ReadsQuietly g.S.Storage.view l.fn.image l.image;
   honest : (g.R.Storage.view l.fn.raw).is_honest → (g.R.Storage.view l.raw).is_honest;
-  same : (out : List (Option Prepared)) → let v = abstract_of g.S.Storage.view g.F.BackingDisk.backing l.fn.image out in let w = abstract_of g.S.Storage.view g.F.BackingDisk.backing l.image out in
+  same : (out : Mappings) → let v = abstract_of g.S.Storage.view g.F.BackingDisk.backing l.fn.image out in let w = abstract_of g.S.Storage.view g.F.BackingDisk.backing l.image out in
       AnsweredEffect v w [] [] (guest_of w ≡ guest_of v);
   filled : (g.R.Storage.view l.fn.raw).is_honest → Fills g.S.Storage.view g.F.BackingDisk.backing l.fn.image 0 l.at (g.R.Storage.view l.fn.raw).contents (g.R.Storage.view l.raw).contents;
 }

@@ -1,5 +1,5 @@
-use Rattle.qcow2_session.proofs.Common.{inl, arith, sym, subst, refl, ◌∙◌, rules, of_storage, Memory, guest_of, abstract_of, IfErr, fault_of_storage, known_in, size_of, MayFailReadingRange, refuses_to_read, behind_none, reads_none}
-use Rattle.qcow2_session.proofs.Lemmas.{refused_none, memory_looking, converted, converting_else, converting_part, converting_raw, so_far_none, so_far_part, unchanged_refused, filled_first, filled_all, refused_is}
+use Rattle.qcow2_session.proofs.Common.{inl, arith, sym, subst, refl, ◌∙◌, rules, of_storage, Memory, refusal_of, guest_of, abstract_of, IfErr, fault_of_storage, known_in, size_of, MayFailReadingRange, refuses_to_read, behind_none, reads_none}
+use Rattle.qcow2_session.proofs.Lemmas.{refused_none, memory_looking, converted, converting_else, converting_part, converting_raw, so_far_none, so_far_part, unchanged_refused, interrupted_here, does_nothing, filled_first, filled_all, refused_is}
 use Rattle.qcow2_session.proofs.convert.to_raw.Goals as goal
 
 pub returns-clause-sees : goal.returns-clause-sees
@@ -71,7 +71,7 @@ returns-in_err-zeros-clause-step g c = record {
 pub returns-in_err-bytes-clause-step : goal.returns-in_err-bytes-clause-step
 returns-in_err-bytes-clause-step g c = record {
   image = search rules;
-  same = search rules;
+  same = unchanged_refused g.S.Storage.view g.F.BackingDisk.backing c.args.image.now c.args.image.now Memory _ (refused_is _ Memory c.from_residual-in_err-bytes.ensures) (λ out. let v = abstract_of g.S.Storage.view g.F.BackingDisk.backing c.args.image.now out in interrupted_here (refusal_of Memory) (does_nothing v));
   honest = search rules;
   quiet = search rules;
   faults = converting_else g.S.Storage.view g.F.BackingDisk.backing c.args.image.now c.args.image.now (g.R.Storage.view c.args.raw.now).faults (g.R.Storage.view c.args.raw.now).faults (so_far_none g.S.Storage.view g.F.BackingDisk.backing c.args.image.now) refl Memory _ (λ is. absurd cc) (refused_is _ Memory c.from_residual-in_err-bytes.ensures);
@@ -81,7 +81,7 @@ returns-in_err-bytes-clause-step g c = record {
 pub returns-in_err-resize-clause-step : goal.returns-in_err-resize-clause-step
 returns-in_err-resize-clause-step g c = record {
   image = search rules;
-  same = search rules;
+  same = unchanged_refused g.S.Storage.view g.F.BackingDisk.backing c.args.image.now c.args.image.now (of_storage c.in_err-resize.field-0.0) _ (refused_is _ (of_storage c.in_err-resize.field-0.0) c.from_residual-in_err-resize.ensures) (λ out. let v = abstract_of g.S.Storage.view g.F.BackingDisk.backing c.args.image.now out in interrupted_here (refusal_of (of_storage c.in_err-resize.field-0.0)) (does_nothing v));
   honest = search rules;
   faults = converting_raw g.S.Storage.view g.F.BackingDisk.backing c.args.image.now c.args.image.now (g.R.Storage.view c.args.raw.now).faults (g.R.Storage.view c.args.raw.now).faults (g.R.Storage.view c.resize.new.self).faults (so_far_none g.S.Storage.view g.F.BackingDisk.backing c.args.image.now) refl
       c.resize.result c.in_err-resize.field-0.0 _ c.resize.ensures.calls.cause c.in_err-resize.was (refused_is _ (of_storage c.in_err-resize.field-0.0) c.from_residual-in_err-resize.ensures);
@@ -92,7 +92,7 @@ returns-in_err-resize-clause-step g c = record {
 pub returns-in_err-resize-2-clause-step : goal.returns-in_err-resize-2-clause-step
 returns-in_err-resize-2-clause-step g c = record {
   image = search rules;
-  same = search rules;
+  same = unchanged_refused g.S.Storage.view g.F.BackingDisk.backing c.args.image.now c.args.image.now (of_storage c.in_err-resize-2.field-0.0) _ (refused_is _ (of_storage c.in_err-resize-2.field-0.0) c.from_residual-in_err-resize-2.ensures) (λ out. let v = abstract_of g.S.Storage.view g.F.BackingDisk.backing c.args.image.now out in interrupted_here (refusal_of (of_storage c.in_err-resize-2.field-0.0)) (does_nothing v));
   honest = search rules;
   faults = converting_raw g.S.Storage.view g.F.BackingDisk.backing c.args.image.now c.args.image.now (g.R.Storage.view c.args.raw.now).faults (g.R.Storage.view c.resize.new.self).faults (g.R.Storage.view c.resize-2.new.self).faults (so_far_none g.S.Storage.view g.F.BackingDisk.backing c.args.image.now) c.in_ok-resize.ensures.calls.cause.told
       c.resize-2.result c.in_err-resize-2.field-0.0 _ c.resize-2.ensures.calls.cause c.in_err-resize-2.was (refused_is _ (of_storage c.in_err-resize-2.field-0.0) c.from_residual-in_err-resize-2.ensures);

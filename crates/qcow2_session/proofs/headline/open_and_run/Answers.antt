@@ -1,5 +1,5 @@
 use Rattle.std.proofs.Common.{◌≡◌, ◌∙◌, ⊎_elim, inl, inr, refl, sym, ap, subst, Option, Some, None, is_some, map, []}
-use Rattle.qcow2_session.proofs.Common.{BackingView, StorageView, Bytes, byte_at, cluster_size, setting_in, shown_below, IsHeadline, RefinesDisk, started, begins, abstract_of, backing_bytes, image_abstraction, whole, IsKeptSince, storage_of_image, command_of, reply_of, bytes_below, missing_beside, IsUntouched}
+use Rattle.qcow2_session.proofs.Common.{BackingView, StorageView, Bytes, byte_at, cluster_size, setting_in, shown_below, IsHeadline, RefinesDisk, started, begins, abstract_of, backing_bytes, image_abstraction, whole, IsKeptSince, storage_of_image, command_of, reply_of, bytes_below, missing_beside, IsUntouched, in_image}
 use Rattle.qcow2_disk.proofs.Headline.{from_bytes, stop_consistent}
 use Rattle.qcow2_session.proofs.Opening.{refused_consistent, kept_opens_again, opens_again}
 use Rattle.qcow2_session.proofs.headline.open_and_run.Goals as goal
@@ -56,7 +56,7 @@ returns-clause-again g c = λ unflushed honest consistent stays k had.
     (λ (none : (c.run-replies.result.items ≡ []) × IsKeptSince before (view (storage_of_image new))).
     kept_opens_again before (view (storage_of_image new)) consistent (g.S.Storage.only_now c.args.storage) none.1 k had)
     (λ (all : IsHeadline (image_abstraction view below) before (bytes_below below c.args.below) new commands replies).
-    opens_again k (stop_consistent ((image_abstraction view below).setting all.opened) (started (abstract_of view below all.opened [])) all.refines.end commands replies all.refines.run (byte_at k) (all.stops k had)))
+    opens_again k (stop_consistent ((image_abstraction view below).setting all.opened) (started (abstract_of view below all.opened (in_image []))) all.refines.end commands replies all.refines.run (byte_at k) (all.stops k had)))
     (returns-clause-headline g c honest consistent stays unflushed)
 
 pub returns-clause-reports : goal.returns-clause-reports
@@ -76,7 +76,7 @@ returns-clause-reports g c =
       behind = c.in-Ok.ensures.header_cluster;
       header_cluster = c.run-replies.ensures.step.header_cluster;
       is = λ honest consistent stays. c.in-Ok.ensures.opens stays honest consistent;
-      begins = λ honest consistent stays. let is = c.in-Ok.ensures.opens stays honest consistent in begins (abstract_of view below opened []) is.opened.sound (whole view below opened [] is.opened.sound) is.opened.clean;
+      begins = λ honest consistent stays. let is = c.in-Ok.ensures.opens stays honest consistent in begins (abstract_of view below opened (in_image [])) is.opened.sound (whole view below opened (in_image []) is.opened.sound) is.opened.clean;
     }
 
 pub returns-clause-faults : goal.returns-clause-faults

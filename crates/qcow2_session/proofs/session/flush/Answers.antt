@@ -1,5 +1,5 @@
 use Rattle.qcow2_session.proofs.Lemmas.{answered_at_once, refused_at_once, error_is, none_to_free, not_both, is_answered, is_refused, not_failed, same_error, where_failed}
-use Rattle.qcow2_session.proofs.Common.{refl, sym, ◌∙◌, rules, refused_as, flushed_as, whole, is_failed}
+use Rattle.qcow2_session.proofs.Common.{refl, sym, ◌∙◌, rules, refused_as, flushed_as, whole, is_failed, in_image}
 use Rattle.qcow2_session.specs.declared.session.Command.TheVariants as C
 use Rattle.qcow2_session.specs.declared.session.Reply.TheVariants as R
 use Rattle.qcow2_session.proofs.session.flush.Goals as goal
@@ -12,11 +12,11 @@ returns-in-Err g c = λ slots. record {
   marks = refused_at_once g.S.Storage.view c.args.image.now c.flush.new.self c.in-Err.refusal c.in-Err.ensures.step.once_written c.in-Err.ensures.step.marks;
   header_cluster = λ _. search rules;
   slots = refl;
-  steps = λ _ x s stands founds. refused_as x _ _ s _ _ _ _ refl stands (record { sized = λ _. tt; failed = λ f. error_is (c.in-Err.ensures.early f); may = λ _. tt }) (c.in-Err.ensures.sees slots.prepared.items) (λ f. f) (λ f. f) (λ _ _. refl) tt;
+  steps = λ _ x s stands founds. refused_as x _ _ s _ _ _ _ refl stands (record { sized = λ _. tt; failed = λ f. error_is (c.in-Err.ensures.early f); may = λ _. tt }) (c.in-Err.ensures.sees (in_image slots.prepared.items)) (λ f. f) (λ f. f) (λ _ _. refl) tt;
   finds = search rules;
   after = refl;
   reports = tt;
-  causes = let before = slots.prepared.items in
+  causes = let before = (in_image slots.prepared.items) in
       is_refused g.S.Storage.view g.F.BackingDisk.backing c.args.image.now c.flush.new.self before C.Flush c.in-Err.refusal (R.Refused c.in-Err.refusal) (λ is. absurd cc) (λ is. absurd cc, λ is. absurd is) refl
       (where_failed _ (is_failed c.args.image.now) (λ f. (same_error (c.in-Err.ensures.early f).0, (c.in-Err.ensures.early f).1))) (λ none. c.in-Err.ensures.fails.late (not_failed (is_failed c.args.image.now) none)) (λ _ _. tt) (λ _ is. is) (λ _ sound. c.in-Err.ensures.fails.fault before sound);
   quiet = λ reading existing. record { reading = c.flush.ensures.step.image.writable ∙ reading; quiet = c.flush.ensures.quiet reading; existing = existing };
@@ -30,12 +30,12 @@ returns g c = λ slots. record {
   marks = answered_at_once g.S.Storage.view c.args.image.now c.flush.new.self c.in_default.ensures.step.once_written c.in_default.ensures.step.marks;
   header_cluster = λ _. search rules;
   slots = refl;
-  steps = λ _ x s stands founds. flushed_as x _ _ s _ _ _ refl stands (record { sized = λ _. tt; failed = λ f. absurd (not_both (c.in_default.ensures.early f)); may = λ _. tt }) (c.in_default.ensures.sees slots.prepared.items) (whole g.S.Storage.view g.F.BackingDisk.backing _ slots.prepared.items) (λ f. f) (λ _ _. refl)
-      (none_to_free g.S.Storage.view g.F.BackingDisk.backing c.flush.new.self slots.prepared.items (λ writes. c.in_default.ensures.emptied (sym c.flush.ensures.step.image.writable ∙ writes)));
+  steps = λ _ x s stands founds. flushed_as x _ _ s _ _ _ refl stands (record { sized = λ _. tt; failed = λ f. absurd (not_both (c.in_default.ensures.early f)); may = λ _. tt }) (c.in_default.ensures.sees (in_image slots.prepared.items)) (whole g.S.Storage.view g.F.BackingDisk.backing _ (in_image slots.prepared.items)) (λ f. f) (λ _ _. refl)
+      (none_to_free g.S.Storage.view g.F.BackingDisk.backing c.flush.new.self (in_image slots.prepared.items) (λ writes. c.in_default.ensures.emptied (sym c.flush.ensures.step.image.writable ∙ writes)));
   finds = search rules;
   after = refl;
   reports = tt;
-  causes = let before = slots.prepared.items in
+  causes = let before = (in_image slots.prepared.items) in
       is_answered g.S.Storage.view g.F.BackingDisk.backing c.args.image.now c.flush.new.self before C.Flush _ tt R.Done (λ is. absurd cc) (λ is. absurd cc, λ is. absurd is) refl (where_failed _ (is_failed c.args.image.now) (λ f. c.in_default.ensures.early f)) (λ _ _. tt);
   quiet = λ reading existing. record { reading = c.flush.ensures.step.image.writable ∙ reading; quiet = c.flush.ensures.quiet reading; existing = existing };
 }

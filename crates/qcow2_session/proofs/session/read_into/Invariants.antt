@@ -1,5 +1,5 @@
 use Rattle.std.proofs.Common.{◌≡◌, ◌-◌, ◌≤◌, ◌+◌, ◌^◌, ◌<◌, length, [], take, List, Option}
-use Rattle.qcow2_session.proofs.Common.{AnsweredEffect, Shows, guest_of, PreservesHeaderCluster, IsSameImage, is_failed, abstract_of, CountsImageChanges, Prepared, ReadsQuietly, SameFaults}
+use Rattle.qcow2_session.proofs.Common.{AnsweredEffect, Shows, guest_of, PreservesHeaderCluster, IsSameImage, is_failed, abstract_of, CountsImageChanges, Prepared, ReadsQuietly, SameFaults, Mappings}
 use Rattle.qcow2_session.proofs.session.read_into.Given as goal
 
 abbrev pub invariant-loop-done : goal.invariant-loop-done
@@ -13,7 +13,7 @@ invariant-loop-done g l = record {
   counts : CountsImageChanges g.S.Storage.view l.fn.image l.image;
   header : l.image.file.header ≡ l.fn.image.file.header;
   quiet : ReadsQuietly g.S.Storage.view l.fn.image l.image;
-  shown : (out : List (Option Prepared)) → let v = abstract_of g.S.Storage.view g.F.BackingDisk.backing l.fn.image out in let w = abstract_of g.S.Storage.view g.F.BackingDisk.backing l.image out in
+  shown : (out : Mappings) → let v = abstract_of g.S.Storage.view g.F.BackingDisk.backing l.fn.image out in let w = abstract_of g.S.Storage.view g.F.BackingDisk.backing l.image out in
       AnsweredEffect v w [] [] (Shows (guest_of v).disk l.fn.offset (take l.done l.bytes) × (guest_of w ≡ guest_of v));
 }
 

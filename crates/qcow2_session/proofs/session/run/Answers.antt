@@ -1,9 +1,10 @@
 use Rattle.std.proofs.Common.{◌≡◌, ◌+◌, ◌∷◌, ◌++◌, rules, ◌∙◌, refl, sym, ap, inl, inr, ⊎_elim, subst, arith, [], None, take, map, is_some, replicate}
-use Rattle.qcow2_session.proofs.Common.{common_steps, take_more, take_all, map-append, abstract_of, image_abstraction, HasNoInvalidation, RefinesWholeRun, begun, started, begins, completes, refines_the_disk, command_of, reply_of, free_places, nothing_since, whole, contents_in, IsReportedRun, RunPoint, first_point, mappings_in, range_of, IsUntouched, RunCounts, behind_none, behind_then, written_then}
+use Rattle.qcow2_session.proofs.Common.{common_steps, take_more, take_all, map-append, abstract_of, image_abstraction, HasNoInvalidation, RefinesWholeRun, begun, started, begins, completes, refines_the_disk, command_of, reply_of, free_places, nothing_since, whole, contents_in, IsReportedRun, RunPoint, first_point, mappings_in, range_of, IsUntouched, RunCounts, behind_none, behind_then, written_then, in_image}
 use Rattle.qcow2_session.proofs.LookingUp.{looked_up, none_said}
 use Rattle.qcow2_session.proofs.Lemmas.{ranges_after, surplus_none, GoesOn, command_step_on, map_more, IsToldSoFar, first_told, image_itself, itself_then, none_before, same_itself, told_more, existing_none, none_counted, run_counts_more, run_counts_still, along_quietly}
 use Rattle.qcow2_session.proofs.Runs.{first_of_all}
 use Rattle.qcow2_session.proofs.session.run.Goals as goal
+use Rattle.qcow2_image.specs.declared.mapping.Place.TheVariants.{Image}
 
 pub loop-command-init : goal.loop-command-init
 loop-command-init g c = record {
@@ -15,7 +16,7 @@ loop-command-init g c = record {
   ran = λ _ x s stands.
       let view = g.S.Storage.view in
       let below = g.F.BackingDisk.backing in
-      first_of_all (image_abstraction view below) (free_places view below) c.args.image.now 256 x s _ _ _ c.in-Some.ensures.prepared c.in-Some.ensures.mappings (ap (λ l. map reply_of l) c.in-Ok.ensures.items) stands;
+      first_of_all (image_abstraction view below) (free_places view below Image) c.args.image.now 256 x s _ _ _ c.in-Some.ensures.prepared c.in-Some.ensures.mappings (ap (λ l. map reply_of l) c.in-Ok.ensures.items) stands;
   told = first_told g.S.Storage.view g.F.BackingDisk.backing c.args.image.now _ _ _ c.in-Some.ensures.prepared c.in-Some.ensures.mappings c.in-Ok.ensures.items;
 }
 
@@ -73,15 +74,15 @@ returns-clause-runs g c = λ none x s stands.
     let so_far = subst (λ k. HasNoInvalidation (map command_of k)) (sym all) none in
     inr (subst (λ k. RefinesWholeRun spec x old new (begun s) (map command_of k) replies) all
     (completes spec x old c.loop-command.image new (replicate 256 None) c.loop-command.slots.prepared.items (begun s) (map command_of (take c.loop-command.command-index c.args.commands.now)) replies
-    (c.loop-command.invariant.ran so_far x s stands).ran c.discard_all.ensures.sees (λ k. refl) (surplus_none spec (free_places view below) old 256)))
+    (c.loop-command.invariant.ran so_far x s stands).ran c.discard_all.ensures.sees (λ k. refl) (surplus_none spec (free_places view below Image) old 256)))
 
 pub returns-clause-means : goal.returns-clause-means
 returns-clause-means g c = λ none opened.
     let view = g.S.Storage.view in
     let below = g.F.BackingDisk.backing in
     let old = c.args.image.now in
-    let before = abstract_of view below old [] in
-    let stands = begins before opened.sound (whole view below old [] opened.sound) opened.clean in
+    let before = abstract_of view below old (in_image []) in
+    let stands = begins before opened.sound (whole view below old (in_image []) opened.sound) opened.clean in
     ⊎_elim (λ h. inl h)
     (λ all. inr (refines_the_disk (image_abstraction view below) old c.discard_all.new.image (map command_of c.args.commands.now) (map reply_of c.loop-command.replies.items) (nothing_since view below g.S.Storage.only_now old) stands all))
     (returns-clause-runs g c none before.setting (started before) stands)
@@ -148,10 +149,10 @@ returns-clause-maps g c = λ none opened.
     let b = contents_in view old.file in
     let commands = c.args.commands.now in
     let replies = c.loop-command.replies.items in
-    let before = abstract_of view below old [] in
+    let before = abstract_of view below old (in_image []) in
     ⊎_elim
     (λ (untouched : IsUntouched view below old new replies). none_said b (is_some old.backing) (map command_of commands) replies untouched.0)
     (λ (told : IsReportedRun view below old new commands replies).
-    let steps = told.steps none before.setting (started before) (begins before opened.sound (whole view below old [] opened.sound) opened.clean) in
+    let steps = told.steps none before.setting (started before) (begins before opened.sound (whole view below old (in_image []) opened.sound) opened.clean) in
     looked_up view below before.setting b (first_point old) (begun (started before)) steps.0 commands replies told.points steps.1 refl opened.clean)
     (returns-clause-reports g c)

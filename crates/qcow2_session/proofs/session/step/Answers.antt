@@ -1,5 +1,5 @@
 use Rattle.qcow2_session.proofs.Lemmas.{at_rest, reading_first, error_is, not_both, reads_answer, read_answered, leaks_answered, read_refused, size_answered, fill_fails, given_byte, given_bytes, writes_answered}
-use Rattle.qcow2_session.proofs.Common.{MarksBy, rules, refl, ap, sym, subst, ◌∙◌, None, Some, done_as, refused_as, none_as, command_of, mappings_in, SlotsAfter, ReplyMatchesImage, RefusalJustified, behind_none, reads_none}
+use Rattle.qcow2_session.proofs.Common.{MarksBy, rules, refl, ap, sym, subst, ◌∙◌, None, Some, done_as, refused_as, none_as, command_of, mappings_in, SlotsAfter, ReplyMatchesImage, RefusalJustified, behind_none, reads_none, in_image}
 use Rattle.qcow2_session.specs.CallSteps.{AnswersCommand}
 use Rattle.qcow2_session.specs.declared.session.Reply.TheVariants.{Bytes, Leaked, Refused, Size}
 use Rattle.qcow2_session.proofs.session.step.Goals as goal
@@ -12,11 +12,11 @@ returns-in-Ok g c = record {
   marks = subst (λ q. MarksBy g.S.Storage.view c.args.image.now c.read.new.image q (None)) (sym c.in-Read.is) c.in-Ok.ensures.step.marks;
   header_cluster = λ _. c.read.ensures.step.header_cluster;
   slots = search rules;
-  steps = λ _ x s stands founds. done_as x _ _ s _ _ _ (ap command_of c.in-Read.is) stands (reads_answer g.S.Storage.view g.F.BackingDisk.backing c.args.image.now c.args.slots.now.prepared.items _ (λ e h. not_both h) _ _ _ c.in-Ok.ensures.fails.early) (c.in-Ok.ensures.sees c.args.slots.now.prepared.items) (λ f. f) (λ _ _. refl) (λ _. tt);
+  steps = λ _ x s stands founds. done_as x _ _ s _ _ _ (ap command_of c.in-Read.is) stands (reads_answer g.S.Storage.view g.F.BackingDisk.backing c.args.image.now (in_image c.args.slots.now.prepared.items) _ (λ e h. not_both h) _ _ _ c.in-Ok.ensures.fails.early) (c.in-Ok.ensures.sees (in_image c.args.slots.now.prepared.items)) (λ f. f) (λ _ _. refl) (λ _. tt);
   finds = search rules;
   after = subst (λ q. SlotsAfter c.args.slots.now.prepared.items q (Bytes c.in-Ok.bytes) c.args.slots.now.prepared.items) (sym c.in-Read.is) refl;
   reports = subst (λ q. ReplyMatchesImage g.S.Storage.view g.F.BackingDisk.backing c.args.image.now c.read.new.image c.args.slots.now.prepared.items c.args.slots.now.prepared.items q (Bytes c.in-Ok.bytes)) (sym c.in-Read.is) tt;
-  causes = subst (λ q. RefusalJustified g.S.Storage.view g.F.BackingDisk.backing c.args.image.now c.read.new.image c.args.slots.now.prepared.items (mappings_in c.args.slots.now.mappings.items) q (Bytes c.in-Ok.bytes)) (sym c.in-Read.is) (read_answered g.S.Storage.view g.F.BackingDisk.backing c.args.image.now c.read.new.image c.args.slots.now.prepared.items _ _ _ _ c.in-Ok.ensures.fails.early);
+  causes = subst (λ q. RefusalJustified g.S.Storage.view g.F.BackingDisk.backing c.args.image.now c.read.new.image (in_image c.args.slots.now.prepared.items) (mappings_in c.args.slots.now.mappings.items) q (Bytes c.in-Ok.bytes)) (sym c.in-Read.is) (read_answered g.S.Storage.view g.F.BackingDisk.backing c.args.image.now c.read.new.image (in_image c.args.slots.now.prepared.items) _ _ _ _ c.in-Ok.ensures.fails.early);
   quiet = λ reading existing. record { reading = c.read.ensures.step.image.writable ∙ reading; quiet = c.read.ensures.step.quiet; existing = existing };
 }
 
@@ -28,12 +28,12 @@ returns-in-Err g c = record {
   marks = subst (λ q. MarksBy g.S.Storage.view c.args.image.now c.read.new.image q (Some c.in-Err.refusal)) (sym c.in-Read.is) c.in-Err.ensures.step.marks;
   header_cluster = λ _. c.read.ensures.step.header_cluster;
   slots = search rules;
-  steps = λ _ x s stands founds. refused_as x _ _ s _ _ _ _ (ap command_of c.in-Read.is) stands (record { sized = λ _. tt; failed = λ f. error_is (reading_first c.args.image.now _ _ _ c.in-Err.ensures.fails.early f); may = λ _. tt }) (c.in-Err.ensures.sees c.args.slots.now.prepared.items) (λ f. f) (λ f. f) (λ _ _. refl) tt;
+  steps = λ _ x s stands founds. refused_as x _ _ s _ _ _ _ (ap command_of c.in-Read.is) stands (record { sized = λ _. tt; failed = λ f. error_is (reading_first c.args.image.now _ _ _ c.in-Err.ensures.fails.early f); may = λ _. tt }) (c.in-Err.ensures.sees (in_image c.args.slots.now.prepared.items)) (λ f. f) (λ f. f) (λ _ _. refl) tt;
   finds = search rules;
   after = subst (λ q. SlotsAfter c.args.slots.now.prepared.items q (Refused c.in-Err.refusal) c.args.slots.now.prepared.items) (sym c.in-Read.is) refl;
   reports = subst (λ q. ReplyMatchesImage g.S.Storage.view g.F.BackingDisk.backing c.args.image.now c.read.new.image c.args.slots.now.prepared.items c.args.slots.now.prepared.items q (Refused c.in-Err.refusal)) (sym c.in-Read.is) tt;
-  causes = subst (λ q. RefusalJustified g.S.Storage.view g.F.BackingDisk.backing c.args.image.now c.read.new.image c.args.slots.now.prepared.items (mappings_in c.args.slots.now.mappings.items) q (Refused c.in-Err.refusal))
-      (sym c.in-Read.is) (read_refused g.S.Storage.view g.F.BackingDisk.backing c.args.image.now c.read.new.image c.args.slots.now.prepared.items _ _ _ c.in-Err.ensures.fails.early c.in-Err.ensures.fails.late c.in-Err.ensures.fails.may_fail);
+  causes = subst (λ q. RefusalJustified g.S.Storage.view g.F.BackingDisk.backing c.args.image.now c.read.new.image (in_image c.args.slots.now.prepared.items) (mappings_in c.args.slots.now.mappings.items) q (Refused c.in-Err.refusal))
+      (sym c.in-Read.is) (read_refused g.S.Storage.view g.F.BackingDisk.backing c.args.image.now c.read.new.image (in_image c.args.slots.now.prepared.items) _ _ _ c.in-Err.ensures.fails.early c.in-Err.ensures.fails.late c.in-Err.ensures.fails.may_fail);
   quiet = λ reading existing. record { reading = c.read.ensures.step.image.writable ∙ reading; quiet = c.read.ensures.step.quiet; existing = existing };
 }
 
@@ -59,11 +59,11 @@ returns-in-Size g c = record {
   marks = subst (λ q. MarksBy g.S.Storage.view c.args.image.now c.args.image.now q (None)) (sym c.in-Size.is) (at_rest g.S.Storage.view None c.args.image.now refl);
   header_cluster = λ _. behind_none;
   slots = search rules;
-  steps = λ _ x s stands founds. none_as x _ s _ _ _ (ap command_of c.in-Size.is) stands (record { sized = λ _. tt; failed = λ _. tt; may = λ _. tt }) (λ sound. (c.size.ensures.sees c.args.slots.now.prepared.items sound, refl)) (λ f. f) (λ _ _. refl) tt;
+  steps = λ _ x s stands founds. none_as x _ s _ _ _ (ap command_of c.in-Size.is) stands (record { sized = λ _. tt; failed = λ _. tt; may = λ _. tt }) (λ sound. (c.size.ensures.sees (in_image c.args.slots.now.prepared.items) sound, refl)) (λ f. f) (λ _ _. refl) tt;
   finds = search rules;
   after = subst (λ q. SlotsAfter c.args.slots.now.prepared.items q (Size c.size.result) c.args.slots.now.prepared.items) (sym c.in-Size.is) refl;
   reports = subst (λ q. ReplyMatchesImage g.S.Storage.view g.F.BackingDisk.backing c.args.image.now c.args.image.now c.args.slots.now.prepared.items c.args.slots.now.prepared.items q (Size c.size.result)) (sym c.in-Size.is) c.size.ensures.value;
-  causes = subst (λ q. RefusalJustified g.S.Storage.view g.F.BackingDisk.backing c.args.image.now c.args.image.now c.args.slots.now.prepared.items (mappings_in c.args.slots.now.mappings.items) q (Size c.size.result)) (sym c.in-Size.is) (size_answered g.S.Storage.view g.F.BackingDisk.backing c.args.image.now c.args.image.now c.args.slots.now.prepared.items c.size.result);
+  causes = subst (λ q. RefusalJustified g.S.Storage.view g.F.BackingDisk.backing c.args.image.now c.args.image.now (in_image c.args.slots.now.prepared.items) (mappings_in c.args.slots.now.mappings.items) q (Size c.size.result)) (sym c.in-Size.is) (size_answered g.S.Storage.view g.F.BackingDisk.backing c.args.image.now c.args.image.now (in_image c.args.slots.now.prepared.items) c.size.result);
   quiet = λ reading existing. record { reading = reading; quiet = reads_none g.S.Storage.view c.args.image.now; existing = existing };
 }
 
@@ -79,7 +79,7 @@ returns-in-Leaked g c = record {
   finds = search rules;
   after = subst (λ q. SlotsAfter c.args.slots.now.prepared.items q (Leaked c.leaked_clusters.result) c.args.slots.now.prepared.items) (sym c.in-Leaked.is) refl;
   reports = subst (λ q. ReplyMatchesImage g.S.Storage.view g.F.BackingDisk.backing c.args.image.now c.args.image.now c.args.slots.now.prepared.items c.args.slots.now.prepared.items q (Leaked c.leaked_clusters.result)) (sym c.in-Leaked.is) c.leaked_clusters.ensures;
-  causes = subst (λ q. RefusalJustified g.S.Storage.view g.F.BackingDisk.backing c.args.image.now c.args.image.now c.args.slots.now.prepared.items (mappings_in c.args.slots.now.mappings.items) q (Leaked c.leaked_clusters.result)) (sym c.in-Leaked.is) (leaks_answered g.S.Storage.view g.F.BackingDisk.backing c.args.image.now c.args.image.now c.args.slots.now.prepared.items c.leaked_clusters.result);
+  causes = subst (λ q. RefusalJustified g.S.Storage.view g.F.BackingDisk.backing c.args.image.now c.args.image.now (in_image c.args.slots.now.prepared.items) (mappings_in c.args.slots.now.mappings.items) q (Leaked c.leaked_clusters.result)) (sym c.in-Leaked.is) (leaks_answered g.S.Storage.view g.F.BackingDisk.backing c.args.image.now c.args.image.now (in_image c.args.slots.now.prepared.items) c.leaked_clusters.result);
   quiet = λ reading existing. record { reading = reading; quiet = reads_none g.S.Storage.view c.args.image.now; existing = existing };
 }
 

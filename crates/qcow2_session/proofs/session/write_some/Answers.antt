@@ -1,9 +1,10 @@
 use Rattle.std.proofs.Common.{Bool, ◌&&◌, ◌≡◌, ◌∷◌, ◌+◌, ◌<◌, ◌≤◌, sym, subst, ap, ◌∙◌, Err, [], Some, None, min, length, refl, arith, ℕ, ⊎_elim, List, inl, inr, take, true, false, rules, Ok, Option, Result, IfErr, is_some, length-take}
 use Rattle.qcow2_session.specs.Sessions.{IsOfWriting}
 use Rattle.qcow2_alloc.specs.declared.error.ImageError.TheVariants as I
-use Rattle.qcow2_session.proofs.Common.{MayFailOn, freed_untaken, met_any, met_kept, met_untaken, released_offsets, file_of, is_failed, lacks_data_file, nat_lt, not, option_or, passes, refuse_if, MarksAtOnce, counts_on, counts_released, IsUnderMapping, IfSome, IfOk, IsOk, given_of, Setting, guest_of, refusal_of, Commits, reason_of, CountsImageFaults, is_writable, number_of, size_of, IsHandedBackBy, image_of, length_of, guest_offset_of, offset_of, table_of, refuses_mapping, refuses_to_prepare, MayFailPreparing, Kept, abstract_of, image_abstraction, meaning, AreDataAt, cluster_size_of, LeavesCopied, WritesFirst, RespectsFirst, free_places, Qcow2, cases_Bool, cases_lt, pow_pos, IsOfNothing, Prepared, common_steps, ImageError, counted_still, faults_then, IsFaultOrLimit, freeing_met, behind_then, written_then, known_in, fault_unlimited, limited_upto, other_limit, fault_of, NeedsOverflowingL1Entry, IfLimit, IsLimited, CopiesCompressed, IsCacheHeld, MayFailAllocating, HasPinnedMapping, taking_as, putting_met}
+use Rattle.qcow2_session.proofs.Common.{MayFailOn, freed_untaken, met_any, met_kept, met_untaken, released_offsets, file_of, is_failed, lacks_data_file, nat_lt, not, option_or, passes, refuse_if, MarksAtOnce, counts_on, counts_released, IsUnderMapping, IfSome, IfOk, IsOk, given_of, Setting, guest_of, refusal_of, Commits, reason_of, CountsImageFaults, is_writable, number_of, size_of, IsHandedBackBy, image_of, length_of, guest_offset_of, offset_of, table_of, refuses_mapping, refuses_to_prepare, MayFailPreparing, Kept, abstract_of, image_abstraction, meaning, AreDataAt, cluster_size_of, LeavesCopied, WritesFirst, RespectsFirst, free_places, data_inside, Qcow2, cases_Bool, cases_lt, pow_pos, IsOfNothing, Prepared, common_steps, ImageError, counted_still, faults_then, IsFaultOrLimit, freeing_met, behind_then, written_then, known_in, fault_unlimited, limited_upto, other_limit, fault_of, NeedsOverflowingL1Entry, IfLimit, IsLimited, CopiesCompressed, IsCacheHeld, MayFailAllocating, HasPinnedMapping, taking_as, putting_met, abstraction_at}
 use Rattle.qcow2_session.proofs.Lemmas.{commit_at_once, in_parts, parts_answered, parts_before, parts_behind, parts_handed, refused_at_once, cut_long, cut_part, cut_short, may_write_none, put_refused, written, commit_old_tables, commit_kept, chunk_ends, no_more_then, none_refused, refused_is, none_within, refuses_if, refuses_less, nothing_refused, nothing_prepared, prepare_same, put_same, commit_since, mapping_usable, not_failed_yet, prepares_usable, prepares_within, prepares_writable, put_met, under_taken, untaken_beside, quiet_commit, quiet_image, quiet_release, existing_or_not, kept_data, part_copied, existing_found, existing_long, existing_near, put_unlimited, compressed_behind, put_looking, put_current}
 use Rattle.qcow2_session.proofs.session.write_some.Goals as goal
+use Rattle.qcow2_image.proofs.Images.Places.{put_first}
 
 -- what refused a call that begins another one before any work refused that one
 one_cause : {A E : Type 0} (r : Result A E) (e x : E) → r ≡ Err e → r ≡ Err x → e ≡ x
@@ -57,9 +58,9 @@ returns-in-Err-clause-sees g c = λ out.
     let view = g.S.Storage.view in
     let below = g.F.BackingDisk.backing in
     let p = c.in_ok-prepared.prepared in
-    put_refused (image_abstraction view below) (free_places view below) (λ _. refl) c.args.image.now c.prepare_data_mapping.new.self p out c.args.offset (length c.args.bytes.now) c.args.bytes.now (take c.min-count.result c.args.bytes.now)
-    (cut_long c.min-count.result (length_of p) c.args.bytes.now (c.min-count.ensures ∙ ap (λ k. min (length c.args.bytes.now) k) c.length.ensures)) (cut_short c.min-count.result c.args.bytes.now) (cut_part c.min-count.result c.args.bytes.now) (pow_pos c.args.image.now.file.header.fields.cluster_bits) (none_long c.args.image.now c.args.offset (length c.args.bytes.now) c.prepare_data_mapping.new.self c.prepare_data_mapping.result p c.prepare_data_mapping.ensures.refusals.early c.prepare_data_mapping.ensures.refusals.nothing c.in_ok-prepared.was) (λ past. past) (c.in_ok-prepared.ensures.sees (None ∷ out) 0 refl)
-    c.write_mapped.new.self c.release.new.image (refusal_of c.in-Err.refusal) (c.in-Err.ensures.sees (Some p ∷ out) 0 refl) (c.release.ensures.sees (Some p ∷ out) 0 refl)
+    put_refused (abstraction_at view below out.place) (free_places view below out.place) (data_inside view below out.place) c.args.image.now c.prepare_data_mapping.new.self p out.slots c.args.offset (length c.args.bytes.now) c.args.bytes.now (take c.min-count.result c.args.bytes.now)
+    (cut_long c.min-count.result (length_of p) c.args.bytes.now (c.min-count.ensures ∙ ap (λ k. min (length c.args.bytes.now) k) c.length.ensures)) (cut_short c.min-count.result c.args.bytes.now) (cut_part c.min-count.result c.args.bytes.now) (pow_pos c.args.image.now.file.header.fields.cluster_bits) (none_long c.args.image.now c.args.offset (length c.args.bytes.now) c.prepare_data_mapping.new.self c.prepare_data_mapping.result p c.prepare_data_mapping.ensures.refusals.early c.prepare_data_mapping.ensures.refusals.nothing c.in_ok-prepared.was) (λ past. past) (c.in_ok-prepared.ensures.sees (put_first None out) 0 refl)
+    c.write_mapped.new.self c.release.new.image (refusal_of c.in-Err.refusal) (c.in-Err.ensures.sees (put_first (Some p) out) 0 refl) (c.release.ensures.sees (put_first (Some p) out) 0 refl)
 
 pub returns-in-Ok-clause-sees : goal.returns-in-Ok-clause-sees
 returns-in-Ok-clause-sees g c = λ out.
@@ -72,19 +73,19 @@ returns-in-Ok-clause-sees g c = λ out.
     let count = c.min-count.result in
     let chunk = take count c.args.bytes.now in
     let long : length chunk ≡ min n (length_of p) = cut_long count (length_of p) c.args.bytes.now (c.min-count.ensures ∙ ap (λ k. min n k) c.length.ensures) in
-    written (image_abstraction view below) (free_places view below) (λ _. refl) old mid p out c.args.offset n chunk chunk long (omega arith) (λ i lt. refl) (pow_pos old.file.header.fields.cluster_bits)
-    (none_of_none (length chunk) n (length_of p) long (none_long old c.args.offset n mid c.prepare_data_mapping.result p c.prepare_data_mapping.ensures.refusals.early c.prepare_data_mapping.ensures.refusals.nothing c.in_ok-prepared.was)) (λ past. omega (arith, past, long)) (c.in_ok-prepared.ensures.sees (None ∷ out) 0 refl)
-    c.write_mapped.new.self (c.in_default.ensures.sees (Some p ∷ out) 0 refl) c.commit_data_mapping.new.self (c.in-Ok.ensures.sees (Some p ∷ out) 0 refl)
+    written (abstraction_at view below out.place) (free_places view below out.place) (data_inside view below out.place) old mid p out.slots c.args.offset n chunk chunk long (omega arith) (λ i lt. refl) (pow_pos old.file.header.fields.cluster_bits)
+    (none_of_none (length chunk) n (length_of p) long (none_long old c.args.offset n mid c.prepare_data_mapping.result p c.prepare_data_mapping.ensures.refusals.early c.prepare_data_mapping.ensures.refusals.nothing c.in_ok-prepared.was)) (λ past. omega (arith, past, long)) (c.in_ok-prepared.ensures.sees (put_first None out) 0 refl)
+    c.write_mapped.new.self (c.in_default.ensures.sees (put_first (Some p) out) 0 refl) c.commit_data_mapping.new.self (c.in-Ok.ensures.sees (put_first (Some p) out) 0 refl)
 
 pub returns-in-Err-Spent-clause-sees : goal.returns-in-Err-Spent-clause-sees
 returns-in-Err-Spent-clause-sees g c = λ out.
     let view = g.S.Storage.view in
     let below = g.F.BackingDisk.backing in
     let p = c.in_ok-prepared.prepared in
-    let refused = subst (λ r. Commits view below c.write_mapped.new.self c.commit_data_mapping.new.self p (Err r)) c.in-Err-Spent.field-0-is c.in-Err-Spent.ensures.sees (Some p ∷ out) 0 refl in
-    commit_old_tables (image_abstraction view below) (free_places view below) (λ _. refl) c.args.image.now c.prepare_data_mapping.new.self p out c.args.offset (length c.args.bytes.now) c.args.bytes.now (take c.min-count.result c.args.bytes.now)
-    (cut_long c.min-count.result (length_of p) c.args.bytes.now (c.min-count.ensures ∙ ap (λ k. min (length c.args.bytes.now) k) c.length.ensures)) (cut_short c.min-count.result c.args.bytes.now) (cut_part c.min-count.result c.args.bytes.now) (pow_pos c.args.image.now.file.header.fields.cluster_bits) (none_long c.args.image.now c.args.offset (length c.args.bytes.now) c.prepare_data_mapping.new.self c.prepare_data_mapping.result p c.prepare_data_mapping.ensures.refusals.early c.prepare_data_mapping.ensures.refusals.nothing c.in_ok-prepared.was) (λ past. past) (c.in_ok-prepared.ensures.sees (None ∷ out) 0 refl)
-    c.write_mapped.new.self (c.in_default.ensures.sees (Some p ∷ out) 0 refl) c.commit_data_mapping.new.self (refusal_of c.in-Err-Spent.refusal) refused.0 refused.1
+    let refused = subst (λ r. Commits view below c.write_mapped.new.self c.commit_data_mapping.new.self p (Err r)) c.in-Err-Spent.field-0-is c.in-Err-Spent.ensures.sees (put_first (Some p) out) 0 refl in
+    commit_old_tables (abstraction_at view below out.place) (free_places view below out.place) (data_inside view below out.place) c.args.image.now c.prepare_data_mapping.new.self p out.slots c.args.offset (length c.args.bytes.now) c.args.bytes.now (take c.min-count.result c.args.bytes.now)
+    (cut_long c.min-count.result (length_of p) c.args.bytes.now (c.min-count.ensures ∙ ap (λ k. min (length c.args.bytes.now) k) c.length.ensures)) (cut_short c.min-count.result c.args.bytes.now) (cut_part c.min-count.result c.args.bytes.now) (pow_pos c.args.image.now.file.header.fields.cluster_bits) (none_long c.args.image.now c.args.offset (length c.args.bytes.now) c.prepare_data_mapping.new.self c.prepare_data_mapping.result p c.prepare_data_mapping.ensures.refusals.early c.prepare_data_mapping.ensures.refusals.nothing c.in_ok-prepared.was) (λ past. past) (c.in_ok-prepared.ensures.sees (put_first None out) 0 refl)
+    c.write_mapped.new.self (c.in_default.ensures.sees (put_first (Some p) out) 0 refl) c.commit_data_mapping.new.self (refusal_of c.in-Err-Spent.refusal) refused.0 refused.1
 
 pub returns-in-Err-Kept-clause-sees : goal.returns-in-Err-Kept-clause-sees
 returns-in-Err-Kept-clause-sees g c = λ out.
@@ -92,11 +93,11 @@ returns-in-Err-Kept-clause-sees g c = λ out.
     let below = g.F.BackingDisk.backing in
     let p = c.in_ok-prepared.prepared in
     let same : c.in-Err-Kept.prepared ≡ p = subst (λ r. IsHandedBackBy p r) c.in-Err-Kept.field-0-is c.in-Err-Kept.ensures.refusals.kept in
-    let refused = subst (λ r. Commits view below c.write_mapped.new.self c.commit_data_mapping.new.self p (Err r)) (c.in-Err-Kept.field-0-is ∙ ap (λ q. Kept c.in-Err-Kept.refusal q) same) c.in-Err-Kept.ensures.sees (Some p ∷ out) 0 refl in
-    commit_kept (image_abstraction view below) (free_places view below) (λ _. refl) c.args.image.now c.prepare_data_mapping.new.self p out c.args.offset (length c.args.bytes.now) c.args.bytes.now (take c.min-count.result c.args.bytes.now)
-    (cut_long c.min-count.result (length_of p) c.args.bytes.now (c.min-count.ensures ∙ ap (λ k. min (length c.args.bytes.now) k) c.length.ensures)) (cut_short c.min-count.result c.args.bytes.now) (cut_part c.min-count.result c.args.bytes.now) (pow_pos c.args.image.now.file.header.fields.cluster_bits) (none_long c.args.image.now c.args.offset (length c.args.bytes.now) c.prepare_data_mapping.new.self c.prepare_data_mapping.result p c.prepare_data_mapping.ensures.refusals.early c.prepare_data_mapping.ensures.refusals.nothing c.in_ok-prepared.was) (λ past. past) (c.in_ok-prepared.ensures.sees (None ∷ out) 0 refl)
-    c.write_mapped.new.self (c.in_default.ensures.sees (Some p ∷ out) 0 refl) c.commit_data_mapping.new.self c.release-in-Err-Kept.new.image (refusal_of c.in-Err-Kept.refusal) refused.0 refused.1
-    (c.release-in-Err-Kept.ensures.sees (Some p ∷ out) 0 (ap (λ q. Some (Some q)) (sym same)))
+    let refused = subst (λ r. Commits view below c.write_mapped.new.self c.commit_data_mapping.new.self p (Err r)) (c.in-Err-Kept.field-0-is ∙ ap (λ q. Kept c.in-Err-Kept.refusal q) same) c.in-Err-Kept.ensures.sees (put_first (Some p) out) 0 refl in
+    commit_kept (abstraction_at view below out.place) (free_places view below out.place) (data_inside view below out.place) c.args.image.now c.prepare_data_mapping.new.self p out.slots c.args.offset (length c.args.bytes.now) c.args.bytes.now (take c.min-count.result c.args.bytes.now)
+    (cut_long c.min-count.result (length_of p) c.args.bytes.now (c.min-count.ensures ∙ ap (λ k. min (length c.args.bytes.now) k) c.length.ensures)) (cut_short c.min-count.result c.args.bytes.now) (cut_part c.min-count.result c.args.bytes.now) (pow_pos c.args.image.now.file.header.fields.cluster_bits) (none_long c.args.image.now c.args.offset (length c.args.bytes.now) c.prepare_data_mapping.new.self c.prepare_data_mapping.result p c.prepare_data_mapping.ensures.refusals.early c.prepare_data_mapping.ensures.refusals.nothing c.in_ok-prepared.was) (λ past. past) (c.in_ok-prepared.ensures.sees (put_first None out) 0 refl)
+    c.write_mapped.new.self (c.in_default.ensures.sees (put_first (Some p) out) 0 refl) c.commit_data_mapping.new.self c.release-in-Err-Kept.new.image (refusal_of c.in-Err-Kept.refusal) refused.0 refused.1
+    (c.release-in-Err-Kept.ensures.sees (put_first (Some p) out) 0 (ap (λ q. Some (Some q)) (sym same)))
 
 -- more than none
 some_bytes : (n : ℕ) → (n ≡ 0 → ⊥) → 0 < n
@@ -327,8 +328,8 @@ returns-in-Ok-clause-sound g c = λ out sound. record {
       let mid = c.prepare_data_mapping.new.self in
       let p = c.in_ok-prepared.prepared in
       let n = length c.args.bytes.now in
-      let call = c.in_ok-prepared.ensures.sees (None ∷ out) 0 refl in
-      let free_place = (free_places view below).free old [] out sound in
+      let call = c.in_ok-prepared.ensures.sees (put_first None out) 0 refl in
+      let free_place = (free_places view below out.place).free old [] out.slots sound in
       let prepared = call.answer free_place in
       let same : cluster_size_of mid ≡ cluster_size_of old = ap (λ (x : Setting). x.cluster_size) (call.acts.works free_place).setting in
       record {
@@ -338,20 +339,20 @@ returns-in-Ok-clause-sound g c = λ out sound. record {
             let count_is : c.min-count.result ≡ min n (length_of p) = c.min-count.ensures ∙ ap (λ k. min n k) c.length.ensures in
             let within = maps.within in (
               omega (arith, count_is, within),
-              untaken_beside view below old.file.header.fields (known_in view old.file) mid out p (meaning view below mid p) c.args.offset n prepared.0 same prepared.1.0.from maps,
+              untaken_beside view below old.file.header.fields (known_in view old.file) mid out p (meaning view below out.place mid p) c.args.offset n prepared.0 same prepared.1.0.from maps,
             );
       };
   freeing =
       let old = c.args.image.now in
       let p = c.in_ok-prepared.prepared in
       let n = length c.args.bytes.now in
-      let prepared = (c.in_ok-prepared.ensures.sees (None ∷ out) 0 refl).answer ((free_places g.S.Storage.view g.F.BackingDisk.backing).free old [] out sound) in
-      let ready = (c.in_default.ensures.sees (Some p ∷ out) 0 refl).answer prepared.0 in
+      let prepared = (c.in_ok-prepared.ensures.sees (put_first None out) 0 refl).answer ((free_places g.S.Storage.view g.F.BackingDisk.backing out.place).free old [] out.slots sound) in
+      let ready = (c.in_default.ensures.sees (put_first (Some p) out) 0 refl).answer prepared.0 in
       let own = c.in_ok-prepared.ensures.answer.own ∙ sym (c.write_mapped.ensures.step.image.number ∙ c.prepare_data_mapping.ensures.step.image.number) in
       existing_or_not (table_of p)
       (λ existing.
       let none = ap is_some existing in
-      let stays = (c.in-Ok.ensures.stands (Some p ∷ out) 0 refl ready.0).freeing none ∙ c.write_mapped.ensures.step.list in
+      let stays = (c.in-Ok.ensures.stands (put_first (Some p) out) 0 refl ready.0).freeing none ∙ c.write_mapped.ensures.step.list in
       no_more_then old c.prepare_data_mapping.new.self c.commit_data_mapping.new.self ((c.in_ok-prepared.ensures.sound out sound).freeing none) (inl stays))
       (λ table. elim (cases_Bool (is_writable old)) [
         | inl writable ↦ inr (c.in-Ok.ensures.emptied own table (c.write_mapped.ensures.step.image.writable ∙ c.prepare_data_mapping.ensures.step.image.writable ∙ writable))
@@ -363,8 +364,8 @@ returns-in-Ok-clause-sound g c = λ out sound. record {
       let old = c.args.image.now in
       let mid = c.prepare_data_mapping.new.self in
       let maps = (c.in_ok-prepared.ensures.sound out sound).maps (omega arith) in
-      let prepared = c.in_ok-prepared.ensures.sees (None ∷ out) 0 refl in
-      let same : cluster_size_of mid ≡ cluster_size_of old = ap (λ (x : Setting). x.cluster_size) (prepared.acts.works ((free_places g.S.Storage.view g.F.BackingDisk.backing).free old [] out sound)).setting in
+      let prepared = c.in_ok-prepared.ensures.sees (put_first None out) 0 refl in
+      let same : cluster_size_of mid ≡ cluster_size_of old = ap (λ (x : Setting). x.cluster_size) (prepared.acts.works ((free_places g.S.Storage.view g.F.BackingDisk.backing out.place).free old [] out.slots sound)).setting in
       chunk_ends old mid c.args.offset (length c.args.bytes.now) c.min-count.result (length_of c.in_ok-prepared.prepared) (c.min-count.ensures ∙ ap (λ k. min (length c.args.bytes.now) k) c.length.ensures) short same (λ less. (maps.short less).cluster);
   copied = λ some.
       let view = g.S.Storage.view in
@@ -381,8 +382,8 @@ returns-in-Ok-clause-sound g c = λ out sound. record {
       let long : length (take count c.args.bytes.now) ≡ count = chunk_long count (length_of p) c.args.bytes.now count_is in
       let less : 0 < length_of p = c.in_ok-prepared.ensures.answer.some some in
       let any : 0 < count = omega (arith, count_is, some, less) in
-      let prepared = (c.in_ok-prepared.ensures.sees (None ∷ out) 0 refl).answer ((free_places view below).free old [] out sound) in
-      let ready = (c.in_default.ensures.sees (Some p ∷ out) 0 refl).answer prepared.0 in
+      let prepared = (c.in_ok-prepared.ensures.sees (put_first None out) 0 refl).answer ((free_places view below out.place).free old [] out.slots sound) in
+      let ready = (c.in_default.ensures.sees (put_first (Some p) out) 0 refl).answer prepared.0 in
       let from_is : guest_offset_of p ≡ offset = prepared.1.0.from in
       let none = none_refused _ (refuses_to_prepare old offset n) p c.in_ok-prepared.ensures.refusals.early in
       let usable = mapping_usable old mid c.prepare_data_mapping.ensures.step.image (image_of p) c.in_ok-prepared.ensures.answer.own c.in_ok-prepared.ensures.step.marks (prepares_usable old offset n none) in
@@ -390,14 +391,14 @@ returns-in-Ok-clause-sound g c = λ out sound. record {
       let stood : AreDataAt new.file.header.fields (known_in view new.file) true (guest_offset_of p) (offset_of p) count =
       existing_or_not (table_of p)
       (λ existing.
-      kept_data view below put (Some p ∷ out) ready.0 new (file_of p) (guest_offset_of p) (offset_of p) (length (take count c.args.bytes.now)) count long (c.commit_data_mapping.ensures.existing own ready.0.works (ap is_some existing)).1
+      kept_data view below put (put_first (Some p) out) ready.0 new (file_of p) (guest_offset_of p) (offset_of p) (length (take count c.args.bytes.now)) count long (c.commit_data_mapping.ensures.existing own ready.0.works (ap is_some existing)).1
       (c.in_default.ensures.held usable existing (omega (arith, any, long))))
-      (λ table i lt. (c.in-Ok.ensures.stands (Some p ∷ out) 0 refl ready.0).copied table i (omega (arith, lt, count_is))) in
+      (λ table i lt. (c.in-Ok.ensures.stands (put_first (Some p) out) 0 refl ready.0).copied table i (omega (arith, lt, count_is))) in
       let chunk = take count c.args.bytes.now in
       let cut : length chunk ≡ min n (length_of p) = cut_long count (length_of p) c.args.bytes.now count_is in
-      let done = written (image_abstraction view below) (free_places view below) (λ _. refl) old mid p out c.args.offset n chunk chunk cut (omega arith) (λ i lt. refl) (pow_pos old.file.header.fields.cluster_bits)
-      (none_of_none (length chunk) n (length_of p) cut (none_long old c.args.offset n mid c.prepare_data_mapping.result p c.prepare_data_mapping.ensures.refusals.early c.prepare_data_mapping.ensures.refusals.nothing c.in_ok-prepared.was)) (λ past. omega (arith, past, cut)) (c.in_ok-prepared.ensures.sees (None ∷ out) 0 refl)
-      put (c.in_default.ensures.sees (Some p ∷ out) 0 refl) new (c.in-Ok.ensures.sees (Some p ∷ out) 0 refl) in
+      let done = written (abstraction_at view below out.place) (free_places view below out.place) (data_inside view below out.place) old mid p out.slots c.args.offset n chunk chunk cut (omega arith) (λ i lt. refl) (pow_pos old.file.header.fields.cluster_bits)
+      (none_of_none (length chunk) n (length_of p) cut (none_long old c.args.offset n mid c.prepare_data_mapping.result p c.prepare_data_mapping.ensures.refusals.early c.prepare_data_mapping.ensures.refusals.nothing c.in_ok-prepared.was)) (λ past. omega (arith, past, cut)) (c.in_ok-prepared.ensures.sees (put_first None out) 0 refl)
+      put (c.in_default.ensures.sees (put_first (Some p) out) 0 refl) new (c.in-Ok.ensures.sees (put_first (Some p) out) 0 refl) in
       let all = subst (λ k. AreDataAt new.file.header.fields (known_in view new.file) true offset (offset_of p) k) (sym long) (subst (λ k. AreDataAt new.file.header.fields (known_in view new.file) true k (offset_of p) count) from_is stood) in
       subst (LeavesCopied view below old new offset c.args.bytes.now) long
       (part_copied view below old mid new out sound (done.answer sound).0 offset p c.args.bytes.now chunk (omega (arith, any, long)) (omega (arith, cut)) from_is ((c.in_ok-prepared.ensures.sound out sound).maps some) c.in_ok-prepared.ensures.sees
@@ -415,13 +416,13 @@ returns-in-Err-clause-sound g c = λ out sound. record {
       let mid = c.prepare_data_mapping.new.self in
       let usable = mapping_usable old c.prepare_data_mapping.new.self c.prepare_data_mapping.ensures.step.image (image_of p) c.in_ok-prepared.ensures.answer.own c.in_ok-prepared.ensures.step.marks (prepares_usable old c.args.offset n none) in
       let some : 0 < n = some_bytes n (λ empty. let no = (c.in-Err.ensures.refusals.nothing usable (grind (arith, common_steps))).0 in absurd cc) in
-      let prepared = (c.in_ok-prepared.ensures.sees (None ∷ out) 0 refl).answer ((free_places g.S.Storage.view g.F.BackingDisk.backing).free old [] out sound) in
+      let prepared = (c.in_ok-prepared.ensures.sees (put_first None out) 0 refl).answer ((free_places g.S.Storage.view g.F.BackingDisk.backing out.place).free old [] out.slots sound) in
       let offset = c.args.offset in
       let count = c.min-count.result in
       record {
         may_fail = let usable = mapping_usable old mid c.prepare_data_mapping.ensures.step.image (image_of p) c.in_ok-prepared.ensures.answer.own c.in_ok-prepared.ensures.step.marks (prepares_usable old offset n none) in
-            let call = c.in_ok-prepared.ensures.sees (None ∷ out) 0 refl in
-            let free_place = (free_places view below).free old [] out sound in
+            let call = c.in_ok-prepared.ensures.sees (put_first None out) 0 refl in
+            let free_place = (free_places view below out.place).free old [] out.slots sound in
             let prepared = call.answer free_place in
             let same : cluster_size_of mid ≡ cluster_size_of old = ap (λ (x : Setting). x.cluster_size) (call.acts.works free_place).setting in
             let maps = (c.in_ok-prepared.ensures.sound out sound).maps some in
@@ -430,14 +431,14 @@ returns-in-Err-clause-sound g c = λ out sound. record {
             let whole = existing_long view below out old mid p offset n prepared.0 same maps some existing in
             let count_is : count ≡ min n (length_of p) = c.min-count.ensures ∙ ap (λ k. min n k) c.length.ensures in
             chunk_long count (length_of p) c.args.bytes.now count_is ∙ (grind (arith, common_steps, count_is, whole)) in
-            elim (put_looking (IsCacheHeld mid (Some p ∷ out)) out p c.in-Err.refusal (λ held. held.1) (λ existing. existing_near view below out old mid p offset n prepared.0 same maps some existing)
-            (λ existing outdated. (c.in-Err.ensures.sound (Some p ∷ out) prepared.0).outdated existing (ap Err outdated) (existing_found view below out old mid p offset n prepared.0 same maps some existing fits c.in_ok-prepared.ensures.answer.place prepared.1.0.from (length (take count c.args.bytes.now)) (long existing)))
-            ((c.in-Err.ensures.sound (Some p ∷ out) prepared.0).may_fail 0 refl (c.prepare_data_mapping.ensures.step.image.writable ∙ prepares_writable old offset n none some))) [ inl fault ↦ inl (inl (inl fault)) | inr used ↦ inr (inl used) ];
+            elim (put_looking (IsCacheHeld mid (put_first (Some p) out)) out p c.in-Err.refusal (λ held. held.1) (λ existing. existing_near view below out old mid p offset n prepared.0 same maps some existing)
+            (λ existing outdated. (c.in-Err.ensures.sound (put_first (Some p) out) prepared.0).outdated existing (ap Err outdated) (existing_found view below out old mid p offset n prepared.0 same maps some existing fits c.in_ok-prepared.ensures.answer.place prepared.1.0.from (length (take count c.args.bytes.now)) (long existing)))
+            ((c.in-Err.ensures.sound (put_first (Some p) out) prepared.0).may_fail 0 refl (c.prepare_data_mapping.ensures.step.image.writable ∙ prepares_writable old offset n none some))) [ inl fault ↦ inl (inl (inl fault)) | inr used ↦ inr (inl used) ];
         taken = λ is. absurd (met_untaken _ c.in-Err.refusal (put_met c.args.image.now c.prepare_data_mapping.new.self c.prepare_data_mapping.ensures.step.image (image_of c.in_ok-prepared.prepared) c.args.offset (length c.args.bytes.now) (length (take c.min-count.result c.args.bytes.now)) c.in-Err.refusal
             c.in_ok-prepared.ensures.answer.own c.in_ok-prepared.ensures.step.marks (λ empty. grind (arith, common_steps)) none (λ usable writes current. putting_met c.prepare_data_mapping.new.self c.write_mapped.new.self c.in_ok-prepared.prepared 0 (length (take c.min-count.result c.args.bytes.now)) c.in-Err.refusal current (c.in-Err.ensures.refusals.late usable writes)) (λ usable empty. let no = (c.in-Err.ensures.refusals.nothing usable empty).0 in absurd cc)
             (λ usable some more. put_current c.prepare_data_mapping.new.self c.write_mapped.new.self c.in_ok-prepared.prepared c.args.offset (length c.args.bytes.now) (length (take c.min-count.result c.args.bytes.now)) c.in-Err.refusal (c.in_ok-prepared.ensures.existing some none)
             (let long = length-take c.min-count.result c.args.bytes.now in omega (arith, long)) c.in-Err.ensures.private (λ existing. c.in-Err.ensures.held usable existing more))) is);
-        limit = other_limit _ c.in-Err.refusal (put_unlimited _ p 0 c.in-Err.refusal ((c.in-Err.ensures.sound (Some p ∷ out) prepared.0).may_fail 0 refl (c.prepare_data_mapping.ensures.step.image.writable ∙ prepares_writable old c.args.offset n none some)));
+        limit = other_limit _ c.in-Err.refusal (put_unlimited _ p 0 c.in-Err.refusal ((c.in-Err.ensures.sound (put_first (Some p) out) prepared.0).may_fail 0 refl (c.prepare_data_mapping.ensures.step.image.writable ∙ prepares_writable old c.args.offset n none some)));
       };
   freeing = search rules;
   ends = search rules;
@@ -450,8 +451,8 @@ returns-in-Err-Spent-clause-sound g c = λ out sound. record {
       let view = g.S.Storage.view in
       let below = g.F.BackingDisk.backing in
       let p = c.in_ok-prepared.prepared in
-      let ready = (c.in_default.ensures.sees (Some p ∷ out) 0 refl).answer ((c.in_ok-prepared.ensures.sees (None ∷ out) 0 refl).answer ((free_places view below).free c.args.image.now [] out sound)).0 in
-      let refused = subst (λ r. Commits view below c.write_mapped.new.self c.commit_data_mapping.new.self p (Err r)) c.in-Err-Spent.field-0-is c.in-Err-Spent.ensures.sees (Some p ∷ out) 0 refl in
+      let ready = (c.in_default.ensures.sees (put_first (Some p) out) 0 refl).answer ((c.in_ok-prepared.ensures.sees (put_first None out) 0 refl).answer ((free_places view below out.place).free c.args.image.now [] out.slots sound)).0 in
+      let refused = subst (λ r. Commits view below c.write_mapped.new.self c.commit_data_mapping.new.self p (Err r)) c.in-Err-Spent.field-0-is c.in-Err-Spent.ensures.sees (put_first (Some p) out) 0 refl in
       record {
         may_fail = inl (inl (inl (fault_of c.in-Err-Spent.refusal (refused.0 ready.0))));
         taken = λ is. absurd (freed_untaken c.in-Err-Spent.refusal (subst (λ r. IsFaultOrLimit (reason_of r)) c.in-Err-Spent.field-0-is
@@ -471,8 +472,8 @@ returns-in-Err-Kept-clause-sound g c = λ out sound. record {
       let below = g.F.BackingDisk.backing in
       let p = c.in_ok-prepared.prepared in
       let same : c.in-Err-Kept.prepared ≡ p = subst (λ r. IsHandedBackBy p r) c.in-Err-Kept.field-0-is c.in-Err-Kept.ensures.refusals.kept in
-      let ready = (c.in_default.ensures.sees (Some p ∷ out) 0 refl).answer ((c.in_ok-prepared.ensures.sees (None ∷ out) 0 refl).answer ((free_places view below).free c.args.image.now [] out sound)).0 in
-      let refused = subst (λ r. Commits view below c.write_mapped.new.self c.commit_data_mapping.new.self p (Err r)) (c.in-Err-Kept.field-0-is ∙ ap (λ q. Kept c.in-Err-Kept.refusal q) same) c.in-Err-Kept.ensures.sees (Some p ∷ out) 0 refl in
+      let ready = (c.in_default.ensures.sees (put_first (Some p) out) 0 refl).answer ((c.in_ok-prepared.ensures.sees (put_first None out) 0 refl).answer ((free_places view below out.place).free c.args.image.now [] out.slots sound)).0 in
+      let refused = subst (λ r. Commits view below c.write_mapped.new.self c.commit_data_mapping.new.self p (Err r)) (c.in-Err-Kept.field-0-is ∙ ap (λ q. Kept c.in-Err-Kept.refusal q) same) c.in-Err-Kept.ensures.sees (put_first (Some p) out) 0 refl in
       record {
         may_fail = inl (inl (inl (fault_of c.in-Err-Kept.refusal (refused.0 ready.0))));
         taken = λ is. absurd (freed_untaken c.in-Err-Kept.refusal (subst (λ r. IsFaultOrLimit (reason_of r)) c.in-Err-Kept.field-0-is

@@ -1,6 +1,6 @@
 use Rattle.qcow2_session.proofs.Lemmas.{answered_at_once, refused_at_once, quiet_left, resizes_failed, resized_itself, resizes_reading, same_early, begun_with, grow_meets, is_answered, is_refused, same_error, some_error, takes_larger, then_early, then_none}
 use Rattle.std.proofs.Common.{◌&&◌, inl, inr, ap, arith, refl, rules}
-use Rattle.qcow2_session.proofs.Common.{cases_lt, size_of, refuses_to_resize, takes_over, nat_lt, Preallocation}
+use Rattle.qcow2_session.proofs.Common.{cases_lt, size_of, refuses_to_resize, takes_over, nat_lt, Preallocation, in_image}
 use Rattle.qcow2_session.proofs.Resized.{none_early, grow_done, grow_refused}
 use Rattle.qcow2_session.specs.declared.session.Command.TheVariants as C
 use Rattle.qcow2_session.specs.declared.session.Reply.TheVariants as R
@@ -15,12 +15,12 @@ returns-in-Ok g c = λ slots. record {
   header_cluster = λ _. search rules;
   slots = refl;
   steps = λ _ x s stands founds.
-      grow_done g.S.Storage.view g.F.BackingDisk.backing c.args.image.now c.resize_grow.new.self c.args.size slots.prepared.items x s stands (λ out sound. (c.in-Ok.ensures.sound out sound).last.last) c.args.mode c.in-Ok.ensures.early
-      (λ sound larger. ((c.in-Ok.ensures.sound slots.prepared.items sound).tables (none_early _ tt _ c.in-Ok.ensures.early) larger).covers) c.in-Ok.ensures.sees;
+      grow_done g.S.Storage.view g.F.BackingDisk.backing c.args.image.now c.resize_grow.new.self c.args.size (in_image slots.prepared.items) x s stands (λ out sound. (c.in-Ok.ensures.sound out sound).last.last) c.args.mode c.in-Ok.ensures.early
+      (λ sound larger. ((c.in-Ok.ensures.sound (in_image slots.prepared.items) sound).tables (none_early _ tt _ c.in-Ok.ensures.early) larger).covers) c.in-Ok.ensures.sees;
   finds = search rules;
   after = refl;
   reports = tt;
-  causes = let before = slots.prepared.items in
+  causes = let before = (in_image slots.prepared.items) in
       is_answered g.S.Storage.view g.F.BackingDisk.backing c.args.image.now c.resize_grow.new.self before (C.ResizeGrow c.args.size c.args.mode) _ tt R.Done (λ is. absurd cc) (λ is. absurd cc, λ is. absurd is) refl
       (then_early (refuses_to_resize c.args.image.now) (nat_lt (size_of c.args.image.now) c.args.size && takes_over c.args.image.now c.args.mode) Preallocation _ c.in-Ok.ensures.early
       (λ none takes. let t = takes_larger (size_of c.args.image.now) c.args.size (takes_over c.args.image.now c.args.mode) takes in c.in-Ok.ensures.preallocation none t.0 t.1)) (λ _ _ larger is. absurd cc);
@@ -36,11 +36,11 @@ returns-in-Err g c = λ slots. record {
   header_cluster = λ _. search rules;
   slots = refl;
   steps = λ _ x s stands founds.
-      grow_refused g.S.Storage.view g.F.BackingDisk.backing c.args.image.now c.resize_grow.new.self c.args.size slots.prepared.items x s stands (λ out sound. (c.in-Err.ensures.sound out sound).last.last) c.args.mode _ c.in-Err.ensures.early c.in-Err.ensures.no_larger c.in-Err.ensures.sees;
+      grow_refused g.S.Storage.view g.F.BackingDisk.backing c.args.image.now c.resize_grow.new.self c.args.size (in_image slots.prepared.items) x s stands (λ out sound. (c.in-Err.ensures.sound out sound).last.last) c.args.mode _ c.in-Err.ensures.early c.in-Err.ensures.no_larger c.in-Err.ensures.sees;
   finds = search rules;
   after = refl;
   reports = tt;
-  causes = let before = slots.prepared.items in
+  causes = let before = (in_image slots.prepared.items) in
       let old = c.args.image.now in
       let e = c.in-Err.refusal in
       let first = then_none (refuses_to_resize old) (nat_lt (size_of old) c.args.size && takes_over old c.args.mode) Preallocation in

@@ -4,6 +4,7 @@ use Rattle.std.proofs.Common.{◌≡◌, ◌+◌, ◌-◌, ◌/◌, ◌^◌, ◌
 use Rattle.qcow2_image.proofs.Common.{cluster_size, Data, Zero, pending_in, l1_index_of, cover, handed_on, known_in, Qcow2, FindsBehind, ClusterMappingsAt, IsFilled, IsKeptAlone, InternalFillingStep, IsCompressed, HasUnannounced, IsCopiedCompressed, IfErr-weaker}
 use Rattle.qcow2_image.proofs.Prepare.KeptMappings.{behind_alone, behind_kept}
 use Rattle.qcow2_image.proofs.image.Qcow2.cluster_mapping_behind.Goals as goal
+use Rattle.qcow2_image.proofs.Images.Places.{alone_of, inside_of}
 
 pub returns-in-Some-copied_offset-clause-step : goal.returns-in-Some-copied_offset-clause-step
 returns-in-Some-copied_offset-clause-step g c = taking_none
@@ -97,8 +98,8 @@ returns-in_ok-fill_kept-in-None-clause-sound g c = λ out k at may sound.
           let image_step = c.fill_kept.ensures.image_step before out sound (λ m. omega arith) (subst (λ x. IsKeptAlone view below old out x host) (sym c.in-Some.ensures.1) alone) in
           let list = ap (λ (image : Qcow2 _ _). image.file.free_list) c.fill_kept.ensures.rest in
           let covers = subst (λ x. cover h (known_in view old.file) (x / cluster_size h) ≡ Zero (Some (c.in-Some-checked_add.host, true))) (sym c.in-Some.ensures.1) kept in
-          let filled = subst (λ x. IsFilled view below old new (host / cluster_size h) x (c.args.length - p.length) c.args.overwrite) c.in-Some.ensures.1
-          (subst (λ x. IsFilled view below old new (host / cluster_size h) c.in-Some.next x c.args.overwrite) c.saturating_sub-left.ensures (c.in_ok-fill_kept-in-None.ensures.fills before out sound covers)) in
+          let filled = subst (λ x. IsFilled view below out.place old new (host / cluster_size h) x (c.args.length - p.length) c.args.overwrite) c.in-Some.ensures.1
+          (subst (λ x. IsFilled view below out.place old new (host / cluster_size h) c.in-Some.next x c.args.overwrite) c.saturating_sub-left.ensures (c.in_ok-fill_kept-in-None.ensures.fills before out sound covers)) in
           behind_kept view below old out k p at c.args.length c.args.table c.args.overwrite may sound c.in-Some-checked_add.host c.in-Some-checked_add.ensures.1 kept (c.keeps.ensures.reach c.if-keeps.true) new image_step list filled;
     }
 
@@ -141,8 +142,8 @@ returns-in_err-old-clause-sound g c = λ out k at may sound.
     let h = old.file.header.fields in
     let cluster : c.cluster-cluster.result ≡ (p.guest + p.length) / cluster_size h = c.cluster-cluster.ensures ∙ ap (λ o. o / 2 ^ c.cluster_bits.result) (c.new.ensures ∙ c.in-Some.ensures.1) ∙ ap (λ b. (p.guest + p.length) / 2 ^ b) c.cluster_bits.ensures.value in
     record {
-      does = absurd (let no : false ≡ true = next_reads view below old out k p at c.args.length c.args.table c.args.overwrite may sound c.cluster-cluster.result cluster (c.in_err-old.ensures.reads (pending_in view below old out) (l1_index_of h p.guest) sound.file sound.inside) in cc);
-      may_fail = absurd (let no : false ≡ true = next_reads view below old out k p at c.args.length c.args.table c.args.overwrite may sound c.cluster-cluster.result cluster (c.in_err-old.ensures.reads (pending_in view below old out) (l1_index_of h p.guest) sound.file sound.inside) in cc);
+      does = absurd (let no : false ≡ true = next_reads view below old out k p at c.args.length c.args.table c.args.overwrite may sound c.cluster-cluster.result cluster (c.in_err-old.ensures.reads (pending_in view below old out) (l1_index_of h p.guest) sound.file (inside_of sound)) in cc);
+      may_fail = absurd (let no : false ≡ true = next_reads view below old out k p at c.args.length c.args.table c.args.overwrite may sound c.cluster-cluster.result cluster (c.in_err-old.ensures.reads (pending_in view below old out) (l1_index_of h p.guest) sound.file (inside_of sound)) in cc);
       limit = hands_limit c.from_residual.result c.in_err-old.field-0.0 c.from_residual.ensures (other_limit _ c.in_err-old.field-0.0 c.in_err-old.ensures.limited);
     }
 
@@ -160,4 +161,4 @@ returns-in_default-checked_add-clause-sound g c = λ out k at may sound.
     }
 
 pub returns-in-None-2-clause-sound : goal.returns-in-None-2-clause-sound
-returns-in-None-2-clause-sound g c = λ out k at may sound. absurd (none_by_guest c.args.self.now sound.alone (sym c.is_placed_by_guest.ensures ∙ c.if-is_placed_by_guest.true))
+returns-in-None-2-clause-sound g c = λ out k at may sound. absurd (none_by_guest c.args.self.now (alone_of sound) (sym c.is_placed_by_guest.ensures ∙ c.if-is_placed_by_guest.true))

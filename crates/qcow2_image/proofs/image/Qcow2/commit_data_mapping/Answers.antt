@@ -97,7 +97,7 @@ returns-then-is_none-clause-stands g c = λ out k placed sound.
     let none : c.args.prepared.table ≡ None = search rules in
     record {
       copied = λ some. absurd (let e : false ≡ true = subst (λ (x : Option _). IsSome x) none some in cc);
-      freeing = let nothing : c.args.prepared.clusters.items ≡ [] = subst (λ (o : Option ℕ). IsReadyWith old.file.header.fields (known_in view old.file) (contents_in view old.file) c.args.prepared o) none (sound.ready k c.args.prepared placed).mapped in
+      freeing = let nothing : c.args.prepared.clusters.items ≡ [] = subst (λ (o : Option ℕ). IsReadyWith old.file.header.fields out.place (known_in view old.file) (contents_in view old.file) c.args.prepared o) none (sound.ready k c.args.prepared placed).mapped in
           λ existing. c.release_prepared.ensures.list ∙ ap (λ clusters. old.file.free_list ++ freed_by clusters) nothing ∙ append-nil old.file.free_list;
     }
 

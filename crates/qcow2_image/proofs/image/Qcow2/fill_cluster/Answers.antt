@@ -1,10 +1,11 @@
 use Rattle.std.proofs.Common.{◌≡◌, ◌+◌, ◌-◌, ◌*◌, ◌/◌, ◌%◌, ◌^◌, ◌<◌, ◌⊎◌, ◌≤◌, ℕ, sym, ap, ◌∙◌, arith, is_some, inl, inr, rules}
 use Rattle.qcow2_image.proofs.Map.Looked.{kind_alone}
-use Rattle.qcow2_image.proofs.Common.{is_beside, div-mul-add, div-add-mod', cluster_size, contents_in, known_in, IsMappedAs, disk_of, cover, known_byte, kind_at, IsFault, IsCopiedCompressed, MayFailCopying, MayFailOn, MayFailReading, IfOk-weaker}
+use Rattle.qcow2_image.proofs.Common.{is_beside, div-mul-add, div-add-mod', cluster_size, contents_in, known_in, IsMappedAs, disk_of, cover, known_byte, kind_at, IsFault, IsCopiedCompressed, MayFailCopying, MayFailOn, MayFailReading, IfOk-weaker, contents_for}
 use Rattle.qcow2_image.proofs.Prepare.CopiedBytes.{none_has, some_has}
 use Rattle.qcow2_image.proofs.Lemmas.{copying_met, alike_within, image_step_none, behind_start, met_as, reading_met, told_sum, within_cluster, filling_none}
 use Rattle.qcow2_alloc.specs.declared.error.ImageError.TheVariants as I
 use Rattle.qcow2_image.proofs.image.Qcow2.fill_cluster.Goals as goal
+use Rattle.qcow2_image.proofs.Images.Places.{alone_of}
 
 pub returns-in_default-checked_add-clause-sound : goal.returns-in_default-checked_add-clause-sound
 returns-in_default-checked_add-clause-sound g c = λ p out sound holds some none.
@@ -39,7 +40,7 @@ returns-clause-sound g c = λ p out sound holds some none.
           let zero_more : c.in-Some-checked_add.guest + 0 ≡ c.in-Some-checked_add.guest = omega arith in
           let here : c.in-Some-checked_add.guest / size ≡ offset / size = ap (λ o. o / size) (sym zero_more) ∙ inside 0 real in
           let mapped : IsMappedAs view old c.in-Some-checked_add.guest c.kind_of-kind.result (c.in-Some.range.end - c.in-Some.range.start) = record {
-            kind_is = c.kind_of-kind.ensures.value ∙ kind_alone old sound.alone c.in-Some-checked_add.guest c.args.old.now ∙ ap (kind_at old.file.header.fields (is_some old.backing) c.in-Some-checked_add.guest) (sym (ap (cover old.file.header.fields (known_in view old.file)) here ∙ covered));
+            kind_is = c.kind_of-kind.ensures.value ∙ kind_alone old (alone_of sound) c.in-Some-checked_add.guest c.args.old.now ∙ ap (kind_at old.file.header.fields (is_some old.backing) c.in-Some-checked_add.guest) (sym (ap (cover old.file.header.fields (known_in view old.file)) here ∙ covered));
             alike = alike_within old.file.header.fields (known_in view old.file) c.in-Some-checked_add.guest (c.in-Some.range.end - c.in-Some.range.start) (λ i lt. inside i lt ∙ sym here);
           } in
           IfOk-weaker c.copy_old.result _ _
@@ -49,8 +50,8 @@ returns-clause-sound g c = λ p out sound holds some none.
           let below = range.1 in
           let place : c.args.cluster * size + i ≡ c.value.result + c.in-Some.range.start + (i - c.in-Some.range.start) = omega (arith, at, from) in
           let guest : c.in-Some-checked_add.guest + (i - c.in-Some.range.start) ≡ offset - offset % size + i = omega (arith, guest_is, from, start_is, o_is) in
-          ap (λ o. known_byte (contents_in view c.copy_old.new.self.file o)) place ∙ there (i - c.in-Some.range.start) (omega (arith, from, below))
-          ∙ ap (disk_of view g.F.BackingDisk.backing old).value guest)
+          ap (λ o. known_byte (contents_for view g.F.BackingDisk.backing out.place c.copy_old.new.self o)) place ∙ there (i - c.in-Some.range.start) (omega (arith, from, below))
+          ∙ ap (disk_of view g.F.BackingDisk.backing out.place old).value guest)
           (c.copy_old.ensures.copies p out sound mapped);
     }
 

@@ -6,6 +6,7 @@ use Rattle.qcow2_image.proofs.Common.{Pending, handed_on, ImageInvariant, abstra
 use Rattle.qcow2_image.proofs.Preallocate.Piece.{all_behind, all_filled, all_fits, all_next, all_put, all_within, piece_gone, sound_now}
 use Rattle.qcow2_image.proofs.Call.FailingErrors.{freeing_met}
 use Rattle.qcow2_image.proofs.Call.KeptOffsets.{met_kept, released_offsets}
+use Rattle.qcow2_image.proofs.Images.Places.{alone_of, put_first}
 
 pub returns-in-Err-clause-step : goal.returns-in-Err-clause-step
 returns-in-Err-clause-step g c = step_then (step_then (step_then c.prepare.ensures.step c.put_zeros.ensures.step) c.release_prepared.ensures.step) c.process_free_list_after.ensures.step
@@ -68,8 +69,8 @@ returns-in-Err-clause-sound g c = λ out sound.
     let e = c.in-Err.refusal in
     let counted = c.min-count.ensures ∙ ap (min p.length) (c.most-2.ensures ∙ sym c.most.ensures) in
     let e' = c.process_free_list_after.result in
-    let own = none_still mid.data_file (c.prepare.ensures.step.stays.image.beside ∙ ap (λ (file : Option _). is_some file) sound.alone) in
-    let ready = (c.in_ok-prepared.ensures.sound some (None ∷ out) ((free_places view below).free old [] out sound)).readies 0 refl in
+    let own = none_still mid.data_file (c.prepare.ensures.step.stays.image.beside ∙ ap (λ (file : Option _). is_some file) (alone_of sound)) in
+    let ready = (c.in_ok-prepared.ensures.sound some (put_first None out) ((free_places view below out.place).free old [] out.slots sound)).readies 0 refl in
     let answered = (c.in_ok-prepared.ensures.sound some out sound).answers in
     record {
       fills = λ whole. let fits = all_fits view below out old mid p from to c.most.result n c.min-count.result sound ready answered lt whole few asked counted in
@@ -105,8 +106,8 @@ returns-in_err-process_free_list-clause-sound g c = λ out sound.
     let asked = c.min.ensures in
     let some : 0 < c.min.result = omega (arith, asked, few, lt) in
     let counted = c.min-count.ensures ∙ ap (min p.length) (c.most-2.ensures ∙ sym c.most.ensures) in
-    let own = none_still mid.data_file (c.prepare.ensures.step.stays.image.beside ∙ ap (λ (file : Option _). is_some file) sound.alone) in
-    let ready = (c.in_ok-prepared.ensures.sound some (None ∷ out) ((free_places view below).free old [] out sound)).readies 0 refl in
+    let own = none_still mid.data_file (c.prepare.ensures.step.stays.image.beside ∙ ap (λ (file : Option _). is_some file) (alone_of sound)) in
+    let ready = (c.in_ok-prepared.ensures.sound some (put_first None out) ((free_places view below out.place).free old [] out.slots sound)).readies 0 refl in
     let answered = (c.in_ok-prepared.ensures.sound some out sound).answers in
     record {
       fills = λ whole. let within = all_within view below out old mid p from to c.most.result n c.min-count.result sound ready answered lt whole few asked counted in
@@ -139,8 +140,8 @@ returns-clause-sound g c = λ out sound.
     let some : 0 < c.min.result = omega (arith, asked, few, lt) in
     let counted = c.min-count.ensures ∙ ap (min p.length) (c.most-2.ensures ∙ sym c.most.ensures) in
     let high : c.args.to < 2 ^ 64 = search rules in
-    let own = none_still mid.data_file (c.prepare.ensures.step.stays.image.beside ∙ ap (λ (file : Option _). is_some file) sound.alone) in
-    let ready = (c.in_ok-prepared.ensures.sound some (None ∷ out) ((free_places view below).free old [] out sound)).readies 0 refl in
+    let own = none_still mid.data_file (c.prepare.ensures.step.stays.image.beside ∙ ap (λ (file : Option _). is_some file) (alone_of sound)) in
+    let ready = (c.in_ok-prepared.ensures.sound some (put_first None out) ((free_places view below out.place).free old [] out.slots sound)).readies 0 refl in
     let answered = (c.in_ok-prepared.ensures.sound some out sound).answers in
     record {
       may_fail = search rules;

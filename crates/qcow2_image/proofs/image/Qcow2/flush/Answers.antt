@@ -1,4 +1,4 @@
-use Rattle.qcow2_image.proofs.Common.{[], sym, ◌∙◌, subst, ap, rules, Result, IfErr, Pending, with_listed, FlushesImage, Qcow2, is_failed, ImageInvariant, pending_in, IsFault, IsFaultOrLimit}
+use Rattle.qcow2_image.proofs.Common.{[], sym, ◌∙◌, subst, ap, rules, Result, IfErr, Pending, with_listed, FlushesImage, Qcow2, is_failed, ImageInvariant, pending_in, IsFault, IsFaultOrLimit, in_image}
 use Rattle.qcow2_image.proofs.Lemmas.{written_back, all_listed, beside, flushes_with_outcome, frees_on, counted_marked, marks_memory, may_mark, fails_none, fails_once, behind_call, quiet_sound, reads_call}
 use Rattle.qcow2_image.proofs.image.Qcow2.flush.Goals as goal
 
@@ -28,9 +28,9 @@ returns-clause-writes g c = λ p sound.
     let old = c.args.self.now in
     let mid = c.begin_call.new.self in
     let new = c.write_back-done.new.self in
-    let first = c.begin_call.ensures.keeps (with_listed p old.file.free_list) [] sound in
+    let first = c.begin_call.ensures.keeps (with_listed p old.file.free_list) (in_image []) sound in
     written_back view below p old new c.mark_failure.new.self c.write_back-done.result c.mark_failure.result
-    (frees_on view below [] old mid new p c.write_back-done.result c.begin_call.ensures.list first (c.write_back-done.ensures.tables.frees p [] (subst (λ l. ImageInvariant view below (with_listed p l) mid []) (sym c.begin_call.ensures.list) first.sound)))
+    (frees_on view below (in_image []) old mid new p c.write_back-done.result c.begin_call.ensures.list first (c.write_back-done.ensures.tables.frees p (in_image []) (subst (λ l. ImageInvariant view below (with_listed p l) mid (in_image [])) (sym c.begin_call.ensures.list) first.sound)))
     c.mark_failure.ensures.answer c.mark_failure.ensures.rest (may_mark c.write_back-done.new.self c.mark_failure.new.self c.write_back-done.result c.mark_failure.ensures.marks)
 
 pub returns-clause-quiet : goal.returns-clause-quiet

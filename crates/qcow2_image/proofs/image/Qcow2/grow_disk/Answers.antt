@@ -171,7 +171,7 @@ returns-in_err-mark_failure-clause-sound g c = λ out sound.
           (inl (inl (inl (subst (λ (r : Result _ _). IfErr r IsFaultOrLimit) done ((c.lengthen_files-longer.ensures.longer.sound out (first out sound).sound).fault)))));
       limit = let larger = c.requires.larger in
           let least = up_least (cluster_size h) c.args.size (pow_pos h.cluster_bits) in
-          hands_limit c.from_residual.result e c.from_residual.ensures (λ is. limited_giving (all_given_by_grow view below old c.args.size c.args.mode) (limited_since (omega (arith, larger, least)) begins (first out sound) (limited is)));
+          hands_limit c.from_residual.result e c.from_residual.ensures (λ is. limited_giving (all_given_by_grow view below out.place old c.args.size c.args.mode) (limited_since (omega (arith, larger, least)) begins (first out sound) (limited is)));
       last = record {
         last = subst (λ (image : Qcow2 _ _). WritesSizeLast view below old image) (sym c.mark_failure.ensures.rest)
             (last_not view below old c.args.size c.args.mode c.requires.usable c.requires.larger begun mid e (is_failed c.mark_failure.new.self) first

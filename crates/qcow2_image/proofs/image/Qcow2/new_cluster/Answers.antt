@@ -28,7 +28,7 @@ returns-in-Ok-clause-sound g c = λ p out sound holds.
                 let hm = mid.file.header.fields in
                 let still : cover hm (known_in view mid.file) (c.args.offset / cluster_size hm) ≡ c.args.old.now =
                 ap (λ size. cover hm (known_in view mid.file) (c.args.offset / size)) (size_format h hm took.2.header) ∙ cover_format h hm took.2.header (known_in view mid.file) (c.args.offset / cluster_size h) ∙ sym (took.2.covers (c.args.offset / cluster_size h)) ∙ covered in
-                filled_as view below mid old new c.cluster.result n.first_cluster c.args.offset c.args.length c.args.overwrite took.2.header (ap (λ (x : Guest). x.disk) took.2.seen) c.cluster.ensures
+                filled_as view below out.place mid old new c.cluster.result n.first_cluster c.args.offset c.args.length c.args.overwrite took.2.header (ap (λ (x : Guest). x.disk) took.2.seen) c.cluster.ensures
                 ((c.in-Ok.ensures.sound new_data out took.2.sound (still_holds view below out old mid p n took.0 holds took.2) some free).fills still);
           };
       may_fail = search rules;

@@ -44,7 +44,7 @@ returns-in-Ok-clause-sound g c = λ p out sound holds.
             let hm = mid.file.header.fields in
             let still : cover hm (known_in view mid.file) (c.args.offset / cluster_size hm) ≡ c.args.old.now =
             ap (λ size. cover hm (known_in view mid.file) (c.args.offset / size)) (size_format h hm took.3.header) ∙ cover_format h hm took.3.header (known_in view mid.file) (c.args.offset / cluster_size h) ∙ sym (took.3.covers (c.args.offset / cluster_size h)) ∙ covered in
-            filled_as view below mid old new c.args.cluster n.first_cluster c.args.offset c.args.length c.args.overwrite took.3.header (ap (λ (x : Guest). x.disk) took.3.seen) (sym took.0)
+            filled_as view below out.place mid old new c.args.cluster n.first_cluster c.args.offset c.args.length c.args.overwrite took.3.header (ap (λ (x : Guest). x.disk) took.3.seen) (sym took.0)
             ((c.in-Ok.ensures.sound new_data out took.3.sound (still_holds view below out old mid p n took.1 holds took.3) some free).fills still);
       } in (took.0, gained);
     }

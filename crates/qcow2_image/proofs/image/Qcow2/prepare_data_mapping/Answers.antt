@@ -53,10 +53,10 @@ returns-clause-sound g c = λ out sound.
           (subst (λ r. IfOk r (λ p. IsNone (table_of p) → ListsNoMore old c.prepare-prepared.new.self)) (sym c.mark_failure.ensures.answer)
           (IfOk-weaker c.prepare-prepared.result _ _ (λ p less none. ⊎_elim (λ same. inl (same ∙ c.begin_call.ensures.list)) (λ empty. inr empty) (less none)) ((c.prepare-prepared.ensures.sound some out stays.sound).freeing)));
       maps = let now = known_in view new.file in
-          λ some. subst (λ (image : Qcow2 _ _). IfOk c.mark_failure.result (λ p. IsAnswered old.file.header.fields (known_in view old.file) c.args.offset c.args.length image.file.header.fields (known_in view image.file) p (meaning view below image p))) (sym c.mark_failure.ensures.rest)
-          (subst (λ r. IfOk r (λ p. IsAnswered old.file.header.fields (known_in view old.file) c.args.offset c.args.length new.file.header.fields now p (meaning view below new p))) (sym c.mark_failure.ensures.answer)
+          λ some. subst (λ (image : Qcow2 _ _). IfOk c.mark_failure.result (λ p. IsAnswered old.file.header.fields (known_in view old.file) c.args.offset c.args.length image.file.header.fields (known_in view image.file) p (meaning view below out.place image p))) (sym c.mark_failure.ensures.rest)
+          (subst (λ r. IfOk r (λ p. IsAnswered old.file.header.fields (known_in view old.file) c.args.offset c.args.length new.file.header.fields now p (meaning view below out.place new p))) (sym c.mark_failure.ensures.answer)
           (IfOk-weaker c.prepare-prepared.result _ _
-          (λ p is. answered_before view old mid c.args.offset c.args.length stays.header stays.covers new.file.header.fields now p (meaning view below new p) is)
+          (λ p is. answered_before view old mid c.args.offset c.args.length stays.header stays.covers new.file.header.fields now p (meaning view below out.place new p) is)
           ((c.prepare-prepared.ensures.sound some out stays.sound).answers)));
     }
 

@@ -6,6 +6,7 @@ use Rattle.qcow2_image.proofs.Prepare.KeptMappings.{data_keep_none}
 use Rattle.qcow2_image.proofs.Prepare.RangeByParts.{room_as}
 use Rattle.qcow2_image.proofs.Prepare.WritableL2Table.{refused as any_refusal}
 use Rattle.qcow2_image.proofs.Prepare.NewCluster.{back_none, first_stands, not_pinned, readied_in_place, first_entry}
+use Rattle.qcow2_image.proofs.Images.Places.{inside_of}
 
 pub returns-then-l2_is_pinned-clause-sound : goal.returns-then-l2_is_pinned-clause-sound
 returns-then-l2_is_pinned-clause-sound g c = λ out sound holds.
@@ -40,7 +41,7 @@ returns-in_err-old-clause-sound g c = λ out sound holds.
       readies = handed_on (λ r. Readies view below old old out c.args.offset c.args.length c.args.overwrite r) c.from_residual-in_err-old.result c.in_err-old.field-0.0 c.from_residual-in_err-old.ensures
           (back_none view below out old (pending_in view below old out) sound c.in_err-old.field-0.0);
       may_fail = let entry = first_entry view below old c.args.offset c.args.table c.new.result c.cluster_bits.result c.cluster-cluster.result c.cluster-cluster.ensures c.new.ensures c.cluster_bits.ensures.value holds in
-          let read = c.in_err-old.ensures.reads (pending_in view below old out) (l1_index_of old.file.header.fields c.args.offset) sound.file sound.inside entry.0 entry.1 holds.new_data in
+          let read = c.in_err-old.ensures.reads (pending_in view below old out) (l1_index_of old.file.header.fields c.args.offset) sound.file (inside_of sound) entry.0 entry.1 holds.new_data in
           absurd (let e : false ≡ true = read in cc);
       limit = hands_limit c.from_residual-in_err-old.result c.in_err-old.field-0.0 c.from_residual-in_err-old.ensures (other_limit _ c.in_err-old.field-0.0 c.in_err-old.ensures.limited);
       kept = search rules;

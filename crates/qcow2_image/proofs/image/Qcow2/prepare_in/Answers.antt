@@ -4,6 +4,7 @@ use Rattle.qcow2_image.proofs.image.Qcow2.prepare_in.Goals as goal
 use Rattle.std.proofs.Common.{◌≡◌, ◌+◌, ◌-◌, ◌/◌, ◌%◌, ◌∷◌, ◌<◌, [], refl, sym, ap, ◌∙◌, subst, arith, inl, rules, None, Err, ℕ, Option, IsSome}
 use Rattle.qcow2_image.proofs.Common.{cover, cluster_size, HeaderFields, known_in, handed_on, header_format, header_then, IsReadied, PreparesRange, GoesTo, pow_pos, mod_below, CopiesCompressed, MayFailAllocating, HasPinnedMapping, l2_pins}
 use Rattle.qcow2_image.proofs.Prepare.RangeByParts.{release_prepared_broken, refused_free}
+use Rattle.qcow2_image.proofs.Images.Places.{put_first}
 
 pub returns-in-Ok-clause-reaches : goal.returns-in-Ok-clause-reaches
 returns-in-Ok-clause-reaches g c = λ out k free sound holds.
@@ -100,19 +101,19 @@ returns-in-Err-clause-sound g c = λ out sound holds.
     let q = c.prepare_rest.new.prepared in
     let first = c.in_ok-prepared.ensures.begins.first in
     let h = old.file.header.fields in
-    let placed = (free_places view below).free old [] out sound in
+    let placed = (free_places view below out.place).free old [] out.slots sound in
     let hm = mid.file.header.fields in
-    let ready = subst (λ o. IsReadied view below old mid (None ∷ out) 0 o c.args.length c.args.overwrite p) (sym first.guest) ((c.in_ok-prepared.ensures.sound (None ∷ out) placed holds).readies 0 refl) in
-    let broken = (c.in-Err.ensures.sound old (None ∷ out) 0 refl first.under ready).does in
+    let ready = subst (λ o. IsReadied view below old mid (put_first None out) 0 o c.args.length c.args.overwrite p) (sym first.guest) ((c.in_ok-prepared.ensures.sound (put_first None out) placed holds).readies 0 refl) in
+    let broken = (c.in-Err.ensures.sound old (put_first None out) 0 refl first.under ready).does in
     record {
       readies = refused_free view below out old c.release_prepared.new.self c.in-Err.refusal
-          (release_prepared_broken view below old new c.release_prepared.new.self (None ∷ out) 0 c.args.length c.args.overwrite q c.in-Err.refusal refl c.release_prepared.ensures.rest c.release_prepared.ensures.sees broken);
-      may_fail = λ some. let ready = subst (λ o. IsReadied view below old mid (None ∷ out) 0 o n c.args.overwrite p) (sym first.guest) ((c.in_ok-prepared.ensures.sound (None ∷ out) placed holds).readies 0 refl) in
+          (release_prepared_broken view below old new c.release_prepared.new.self (put_first None out) 0 c.args.length c.args.overwrite q c.in-Err.refusal refl c.release_prepared.ensures.rest c.release_prepared.ensures.sees broken);
+      may_fail = λ some. let ready = subst (λ o. IsReadied view below old mid (put_first None out) 0 o n c.args.overwrite p) (sym first.guest) ((c.in_ok-prepared.ensures.sound (put_first None out) placed holds).readies 0 refl) in
           let size : cluster_size hm ≡ cluster_size h = ap (λ (x : HeaderFields). cluster_size x) (header_format old.file.header mid.file.header c.in_ok-prepared.ensures.step.header) in
           inl (alone_as (λ found. compressed_as h hm (known_in view old.file) (known_in view mid.file) c.args.offset n c.args.overwrite size ready.covers (subst (λ o. CopiesCompressed o n c.args.overwrite hm (known_in view mid.file)) first.guest found)) (λ no. no)
-          c.in-Err.refusal ((c.in-Err.ensures.sound old (None ∷ out) 0 refl first.under ready).may_fail));
+          c.in-Err.refusal ((c.in-Err.ensures.sound old (put_first None out) 0 refl first.under ready).may_fail));
       limit = λ some is. let goes : GoesTo view old mid = record { image = c.prepare_first.ensures.step.stays.image; header_cluster = c.prepare_first.ensures.step.header_cluster some } in
-          limited_from (omega arith) (omega arith) (goes_step step_none) placed (places_enter view below old out) ((c.in-Err.ensures.sound old (None ∷ out) 0 refl first.under ready).limit goes is);
+          limited_from (omega arith) (omega arith) (goes_step step_none) placed (places_enter view below old out) ((c.in-Err.ensures.sound old (put_first None out) 0 refl first.under ready).limit goes is);
     }
 
 pub returns-in-Ok-clause-pins : goal.returns-in-Ok-clause-pins

@@ -10,6 +10,7 @@ use Rattle.qcow2_image.proofs.Common.{known_in, handed_on, PreparesRange, IsPlac
 use Rattle.qcow2_image.proofs.Prepare.PreparedAnswers.{answered_before, answered_existing, answered_range, nowhere_before, taken_before}
 use Rattle.qcow2_image.proofs.Lemmas.{pinned_exists, refused_exists, free_places, prepares_after, readied_after, taken_by, behind_then, found_pins, met_untaken, prepared_unpinned, unpinned_refused, hands_limit, other_limit, goes_step, limited_since, limits_as, place_kept, place_then, compressed_as, hands_met, if_err_both, taking_as, taking_kept}
 use Rattle.qcow2_image.proofs.Prepare.Preparing.{readied_existing}
+use Rattle.qcow2_image.proofs.Images.Places.{alone_of, inside_of, put_first}
 
 pub returns-in-Some-clause-some : goal.returns-in-Some-clause-some
 returns-in-Some-clause-some g c = λ some.
@@ -78,15 +79,15 @@ returns-in-Some-clause-sound g c = λ some out sound.
     let known = known_in view mid.file in
     let q = c.existing_at.result in
     let p = pending_in view below mid out in
-    let place = subst (IsPlaceOf h known c.args.offset c.args.length) c.in-Some.is (c.in_ok-host.ensures.place p found.0.sound.file found.0.sound.inside found.0.sound.alone found.1.entry some) in
+    let place = subst (IsPlaceOf h known c.args.offset c.args.length) c.in-Some.is (c.in_ok-host.ensures.place p found.0.sound.file (inside_of found.0.sound) (alone_of found.0.sound) found.1.entry some) in
     record {
       may_fail = search rules;
       taken = search rules;
       limit = search rules;
       readies = λ k free. readied_after view below out c.args.self.now c.writable_l2_table.new.self c.writable_l2_table.new.self found.0 k c.args.offset c.args.length c.args.overwrite c.existing_at.result
           (readied_existing view below out c.writable_l2_table.new.self found.0.sound c.existing_at.result c.args.offset c.args.length c.existing_at.ensures.existing k free c.args.overwrite);
-      answers = answered_before view c.args.self.now mid c.args.offset c.args.length found.0.header found.0.covers mid.file.header.fields known q (meaning view below mid q)
-          (answered_existing view below mid known c.args.offset c.args.length q mid.number some c.existing_at.ensures.existing (subst (IsWritableAt h known c.args.offset c.args.length) (sym c.existing_at.ensures.offset) place));
+      answers = answered_before view c.args.self.now mid c.args.offset c.args.length found.0.header found.0.covers mid.file.header.fields known q (meaning view below out.place mid q)
+          (answered_existing view below out.place mid known c.args.offset c.args.length q mid.number some c.existing_at.ensures.existing (subst (IsWritableAt h known c.args.offset c.args.length) (sym c.existing_at.ensures.offset) place));
       freeing = λ none. (c.in_ok-table.ensures.sound out sound).freeing;
     }
 
@@ -100,22 +101,22 @@ returns-in-None-clause-sound g c = λ some out sound.
     let new = c.prepare_in.new.self in
     let size : cluster_size mid.file.header.fields ≡ cluster_size old.file.header.fields = ap (λ (x : HeaderFields). cluster_size x) found.0.header in
     let p = pending_in view g.F.BackingDisk.backing mid out in
-    let nowhere = subst (IsPlaceOf mid.file.header.fields (known_in view mid.file) c.args.offset c.args.length) c.in-None.is (c.in_ok-host.ensures.place p found.0.sound.file found.0.sound.inside found.0.sound.alone found.1.entry some) in
+    let nowhere = subst (IsPlaceOf mid.file.header.fields (known_in view mid.file) c.args.offset c.args.length) c.in-None.is (c.in_ok-host.ensures.place p found.0.sound.file (inside_of found.0.sound) (alone_of found.0.sound) found.1.entry some) in
     let taken =
     let p = pending_in view below mid out in
-    let place = subst (IsPlaceOf mid.file.header.fields (known_in view mid.file) c.args.offset c.args.length) c.in-None.is (c.in_ok-host.ensures.place p found.0.sound.file found.0.sound.inside found.0.sound.alone found.1.entry some) in
+    let place = subst (IsPlaceOf mid.file.header.fields (known_in view mid.file) c.args.offset c.args.length) c.in-None.is (c.in_ok-host.ensures.place p found.0.sound.file (inside_of found.0.sound) (alone_of found.0.sound) found.1.entry some) in
     IfErr-weaker c.prepare_in.result _ _
     (λ e taken is.
     taken_before view old mid c.args.offset c.args.length found.0.header found.0.covers out
     (taken_by view below mid p out found.0.sound c.args.offset c.in_ok-table.table found.1 (known_in view mid.file) c.args.length (taken is) place)) c.prepare_in.ensures.taken in
     let answers =
     let p = pending_in view below mid out in
-    let place = subst (IsPlaceOf mid.file.header.fields (known_in view mid.file) c.args.offset c.args.length) c.in-None.is (c.in_ok-host.ensures.place p found.0.sound.file found.0.sound.inside found.0.sound.alone found.1.entry some) in
-    let placed = (free_places view below).free mid [] out found.0.sound in
+    let place = subst (IsPlaceOf mid.file.header.fields (known_in view mid.file) c.args.offset c.args.length) c.in-None.is (c.in_ok-host.ensures.place p found.0.sound.file (inside_of found.0.sound) (alone_of found.0.sound) found.1.entry some) in
+    let placed = (free_places view below out.place).free mid [] out.slots found.0.sound in
     IfOk-weaker c.prepare_in.result _ _
-    (λ q is. answered_before view old mid c.args.offset c.args.length found.0.header found.0.covers new.file.header.fields (known_in view new.file) q (meaning view below new q) is)
-    (answered_range view below mid new (None ∷ out) 0 c.args.offset c.args.length c.args.overwrite refl place c.prepare_in.result
-    ((c.prepare_in.ensures.sound (None ∷ out) placed found.1).readies) (c.prepare_in.ensures.reaches (None ∷ out) 0 refl placed found.1)) in
+    (λ q is. answered_before view old mid c.args.offset c.args.length found.0.header found.0.covers new.file.header.fields (known_in view new.file) q (meaning view below out.place new q) is)
+    (answered_range view below mid new (put_first None out) 0 c.args.offset c.args.length c.args.overwrite refl place c.prepare_in.result
+    ((c.prepare_in.ensures.sound (put_first None out) placed found.1).readies) (c.prepare_in.ensures.reaches (put_first None out) 0 refl placed found.1)) in
     record {
       readies = prepares_after g.S.Storage.view g.F.BackingDisk.backing out c.args.self.now c.writable_l2_table.new.self c.prepare_in.new.self found.0 c.args.offset c.args.length c.args.overwrite c.prepare_in.result
           ((c.prepare_in.ensures.sound out found.0.sound found.1).readies);

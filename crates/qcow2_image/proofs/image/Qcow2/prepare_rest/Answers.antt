@@ -1,6 +1,6 @@
 use Rattle.qcow2_image.proofs.Lemmas.{taking_none, taking_then, get_set_same, length_set, counted_ok, counted_on, faults_then, goes_then, hands_limit, limited_from, hands_alone, next_begins, alone_as, compressed_as, compressed_at}
 use Rattle.std.proofs.Common.{◌≡◌, ◌-◌, ◌*◌, ◌%◌, ◌<◌, ◌≤◌, ◌+◌, length, true, false, inr, refl, sym, ap, ◌∙◌, subst, arith, min, rules, Ok, Err, Some, None}
-use Rattle.qcow2_image.proofs.Common.{slice_set, vec_capacity, cluster_size, handed_on, header_same, header_format, Prepared, IsReadied, GoesTo, BreaksOff, Ends, GoesNext, GoesOn, HeaderFields, known_in, CopiesCompressed}
+use Rattle.qcow2_image.proofs.Common.{slice_set, vec_capacity, cluster_size, handed_on, header_same, header_format, Prepared, IsReadied, GoesTo, BreaksOff, Ends, GoesNext, GoesOn, HeaderFields, known_in, CopiesCompressed, set_slot}
 use Rattle.qcow2_image.proofs.Prepare.RangeByParts.{may_go_on, so_far_all, so_far_ends, so_far_next}
 use Rattle.qcow2_image.proofs.image.Qcow2.prepare_rest.Goals as goal
 
@@ -86,7 +86,7 @@ returns-in_err-prepare_next-clause-sound g c = λ start out k free under is.
           (record {
             mid = now;
             readied = before;
-            refused = (c.in_err-prepare_next.ensures.sound (slice_set out k (Some q)) k (get_set_same out k (Some q) None free)
+            refused = (c.in_err-prepare_next.ensures.sound (set_slot out k (Some q)) k (get_set_same out.slots k (Some q) None free)
                 (may_go_on view below old now p q n c.min-end.result c.args.table c.args.overwrite so bound c.loop-prepared-test.true start out k under is) before.sound).does;
           }));
       may_fail = hands_alone (CopiesCompressed p.guest n c.args.overwrite h (known_in view old.file)) ⊥ c.from_residual.result e c.from_residual.ensures
@@ -94,12 +94,12 @@ returns-in_err-prepare_next-clause-sound g c = λ start out k free under is.
           (λ copied.
           compressed_as h now.file.header.fields (known_in view old.file) (known_in view now.file) p.guest n c.args.overwrite size (λ j. sym (is.covers j) ∙ before.covers j)
           (compressed_at now.file.header.fields (known_in view now.file) p.guest n (q.guest + q.length) (n - q.length) c.args.overwrite (omega (arith, guest)) (omega (arith, bound, less)) (omega (arith, guest, bound, less))
-          (inr (next_begins view below now (slice_set out k (Some q)) k q (get_set_same out k (Some q) None free) n c.args.table c.args.overwrite may before.sound)) copied))
-          (λ no. no) e ((c.in_err-prepare_next.ensures.sound (slice_set out k (Some q)) k (get_set_same out k (Some q) None free) may before.sound).may_fail));
+          (inr (next_begins view below now (set_slot out k (Some q)) k q (get_set_same out.slots k (Some q) None free) n c.args.table c.args.overwrite may before.sound)) copied))
+          (λ no. no) e ((c.in_err-prepare_next.ensures.sound (set_slot out k (Some q)) k (get_set_same out.slots k (Some q) None free) may before.sound).may_fail));
       limit = λ goes. let may = may_go_on view below old now p q n c.min-end.result c.args.table c.args.overwrite so bound c.loop-prepared-test.true start out k under is in
           let so_far : GoesTo view old now = record { image = so.stays.image; header_cluster = c.loop-prepared.invariant.step.header_cluster } in
           hands_limit c.from_residual.result e c.from_residual.ensures
-          (λ limit. limited_from (subst (λ n. n ≤ length out) (sym (length_set out k (Some q))) (omega arith)) (omega arith) (goes_then goes so_far) before.sound before.works ((c.in_err-prepare_next.ensures.sound (slice_set out k (Some q)) k (get_set_same out k (Some q) None free) may before.sound).limit limit));
+          (λ limit. limited_from (subst (λ n. n ≤ length out.slots) (sym (length_set out.slots k (Some q))) (omega arith)) (omega arith) (goes_then goes so_far) before.sound before.works ((c.in_err-prepare_next.ensures.sound (set_slot out k (Some q)) k (get_set_same out.slots k (Some q) None free) may before.sound).limit limit));
     }
 
 pub returns-then-not-branch-clause-sound : goal.returns-then-not-branch-clause-sound
@@ -119,8 +119,8 @@ returns-then-not-branch-clause-sound g c = λ start out k free under is.
       does = subst (λ (x : Prepared). IsReadied view below start new out k x.guest n c.args.overwrite x × (x.length < c.args.length → Ends view new x)) (sym same)
           (so_far_ends view below c.args.self.now now c.args.prepared.now q n c.min-end.result c.args.table c.args.overwrite c.loop-prepared.invariant.turns bound c.loop-prepared-test.true new start out k free under is
           (λ may sound.
-          subst (λ b. GoesNext view below now new (slice_set out k (Some q)) k n c.args.overwrite q c.prepare_next.new.prepared (Ok b)) c.if-not-branch.true
-          ((c.in_ok-prepare_next.ensures.sound (slice_set out k (Some q)) k (get_set_same out k (Some q) None free) may sound).does)));
+          subst (λ b. GoesNext view below now new (set_slot out k (Some q)) k n c.args.overwrite q c.prepare_next.new.prepared (Ok b)) c.if-not-branch.true
+          ((c.in_ok-prepare_next.ensures.sound (set_slot out k (Some q)) k (get_set_same out.slots k (Some q) None free) may sound).does)));
     }
 
 pub returns-clause-sound : goal.returns-clause-sound

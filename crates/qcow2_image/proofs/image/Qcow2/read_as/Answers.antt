@@ -1,10 +1,11 @@
 use Rattle.std.proofs.Common.{◌≡◌, ◌+◌, ◌/◌, ◌<◌, ℕ, List, length, replicate, refl, sym, ap, ◌∙◌, subst, rules, is_some, inl}
-use Rattle.qcow2_image.proofs.Common.{length-replicate, get_or-replicate, byte_at-bytes_at, length-bytes_at, byte_at, known_byte, cluster_size, cover, disk, known_of, known_in, state_in, view_in, found_kind, is_data_file, backing_bytes, disk_of, MayFailReading, IsFault, IfOk-weaker, storage_of, ImageFile, IsQuiet, ReadsAs, OnOk, Qcow2, always_ok}
+use Rattle.qcow2_image.proofs.Common.{length-replicate, get_or-replicate, byte_at-bytes_at, length-bytes_at, byte_at, known_byte, cluster_size, cover, disk, known_of, known_in, state_in, view_in, found_kind, is_data_file, backing_bytes, disk_of, MayFailReading, IsFault, IfOk-weaker, storage_of, ImageFile, IsQuiet, ReadsAs, OnOk, Qcow2, always_ok, Image, IfOk, Shows}
 use Rattle.qcow2_image.proofs.Lemmas.{reads_same, met_as}
 use Rattle.qcow2_image.proofs.Map.Reading.{raw_shown, zero_shown, indirect_shown, none_below}
 use Rattle.qcow2_image.proofs.Map.Held.{keeps_storage}
 use Rattle.qcow2_image.proofs.image.Qcow2.read_as.Goals as goal
 use Rattle.qcow2_alloc.proofs.KeptTables.Quiet.{quiet_none}
+use Rattle.qcow2_image.proofs.Images.Places.{alone_of, inside_of, from_image}
 
 pub returns-in-Indirect-clause-shows : goal.returns-in-Indirect-clause-shows
 returns-in-Indirect-clause-shows g c = λ p out sound mapped.
@@ -13,14 +14,14 @@ returns-in-Indirect-clause-shows g c = λ p out sound mapped.
     let h = file.header.fields in
     let new = c.read_backing.new.self in
     let below = backing_bytes g.S.Storage.view g.F.BackingDisk.backing image.backing in
-    let same : disk_of g.S.Storage.view g.F.BackingDisk.backing new ≡ disk (known_in g.S.Storage.view file) below =
+    let same : disk_of g.S.Storage.view g.F.BackingDisk.backing Image new ≡ disk (known_in g.S.Storage.view file) below =
     ap (λ b. disk (known_in g.S.Storage.view new.file) b.1) (c.read_backing.ensures.keeps p out sound).below ∙ ap (λ f. disk (known_in g.S.Storage.view f) below) c.read_backing.ensures.file in
-    IfOk-weaker c.read_backing.result _ _
+    from_image (λ place. IfOk c.read_backing.result (λ done. Shows (disk_of g.S.Storage.view g.F.BackingDisk.backing place new) c.args.offset c.read_backing.new.bytes)) sound (IfOk-weaker c.read_backing.result _ _
     (λ done read i lt. ap (λ d. d.value (c.args.offset + i)) same
-    ∙ indirect_shown (state_in g.S.Storage.view file p) sound.file.caches.kept.kept.crash_invariant sound.inside c.args.offset (length c.args.bytes.now) mapped.alike (is_some image.backing) below
+    ∙ indirect_shown (state_in g.S.Storage.view file p) sound.file.caches.kept.kept.crash_invariant (inside_of sound) c.args.offset (length c.args.bytes.now) mapped.alike (is_some image.backing) below
     (cover h (known_in g.S.Storage.view file) (c.args.offset / cluster_size h)) refl c.in-Indirect.offset (ap found_kind (sym c.in-Indirect.is) ∙ mapped.kind_is) i (subst (λ m. i < m) read.0 lt)
     ∙ ap known_byte (sym (read.1 i lt)))
-    (c.read_backing.ensures.reads sound.below)
+    (c.read_backing.ensures.reads sound.below))
 
 pub returns-in-Zero-clause-shows : goal.returns-in-Zero-clause-shows
 returns-in-Zero-clause-shows g c = λ p out sound mapped i lt.
@@ -30,9 +31,9 @@ returns-in-Zero-clause-shows g c = λ p out sound mapped i lt.
     let n = length c.args.bytes.now in
     let filled : c.fill.new.self ≡ replicate n 0 = search rules in
     let within : i < n = subst (λ m. i < m) (ap length filled ∙ length-replicate {A = ℕ} n 0) lt in
-    zero_shown (state_in g.S.Storage.view file p) sound.file.caches.kept.kept.crash_invariant sound.inside c.args.offset n mapped.alike (is_some image.backing) (backing_bytes g.S.Storage.view g.F.BackingDisk.backing image.backing)
+    from_image (λ place. (disk_of g.S.Storage.view g.F.BackingDisk.backing place image).value (c.args.offset + i) ≡ known_byte (byte_at c.fill.new.self i)) sound (zero_shown (state_in g.S.Storage.view file p) sound.file.caches.kept.kept.crash_invariant (inside_of sound) c.args.offset n mapped.alike (is_some image.backing) (backing_bytes g.S.Storage.view g.F.BackingDisk.backing image.backing)
     (cover h (known_in g.S.Storage.view file) (c.args.offset / cluster_size h)) refl (none_below g.S.Storage.view g.F.BackingDisk.backing image.backing) c.in-Zero.explicit (ap found_kind (sym c.in-Zero.is) ∙ mapped.kind_is) i within
-    ∙ ap known_byte (sym (ap (λ (b : List ℕ). byte_at b i) filled ∙ get_or-replicate n i 0 0 within))
+    ∙ ap known_byte (sym (ap (λ (b : List ℕ). byte_at b i) filled ∙ get_or-replicate n i 0 0 within)))
 
 pub returns-in-Indirect-clause-fails : goal.returns-in-Indirect-clause-fails
 returns-in-Indirect-clause-fails g c = record {
@@ -75,15 +76,15 @@ returns-in-Raw-clause-shows g c = λ p out sound mapped.
     let below = backing_bytes view g.F.BackingDisk.backing c.args.self.now.backing in
     let contents = (view_in view file).contents in
     let n = length c.args.bytes.now in
-    IfOk-weaker c.read_data.result _ _
+    from_image (λ place. IfOk c.read_data.result (λ done. Shows (disk_of view g.F.BackingDisk.backing place c.read_data.new.self) c.args.offset c.read_data.new.bytes)) sound (IfOk-weaker c.read_data.result _ _
     (λ done read i lt.
     let within : i < n = subst (λ m. i < m) (ap length read ∙ length-bytes_at contents c.in-Raw.offset n) lt in
-    ap (λ (image : Qcow2 _ _). (disk_of view g.F.BackingDisk.backing image).value (c.args.offset + i)) c.read_data.ensures.data.rest
+    ap (λ (image : Qcow2 _ _). (disk_of view g.F.BackingDisk.backing Image image).value (c.args.offset + i)) c.read_data.ensures.data.rest
     ∙ ap (λ (bytes : List ℕ). (disk (known_of h file.caches (byte_at bytes)) below).value (c.args.offset + i)) (c.read_data.ensures.data.same sound.file.honest)
-    ∙ raw_shown (state_in view file p) sound.file.caches.kept.kept.crash_invariant sound.inside c.args.offset n mapped.alike (is_some c.args.self.now.backing) below
+    ∙ raw_shown (state_in view file p) sound.file.caches.kept.kept.crash_invariant (inside_of sound) c.args.offset n mapped.alike (is_some c.args.self.now.backing) below
     (cover h (known_in view file) (c.args.offset / cluster_size h)) refl (is_data_file c.in-Raw.place) c.in-Raw.offset c.in-Raw.writable (ap found_kind (sym c.in-Raw.is) ∙ mapped.kind_is) i within
     ∙ ap known_byte (sym (ap (λ (b : List ℕ). byte_at b i) read ∙ byte_at-bytes_at contents c.in-Raw.offset n i within)))
-    (c.read_data.ensures.own sound.alone sound.file.honest)
+    (c.read_data.ensures.own (alone_of sound) sound.file.honest))
 
 pub returns-in-Raw-clause-fails : goal.returns-in-Raw-clause-fails
 returns-in-Raw-clause-fails g c = record {

@@ -22,7 +22,7 @@ returns-clause-sound g c = λ p out sound.
           (subst (λ o. IsFoundWhole view old o (further_by c.args.at c.args.mapping.now.kind) n) c.in_ok-offset.ensures.place
           (subst (λ k. IsFoundWhole view old c.in_ok-offset.offset k n) c.further-kind.ensures ((c.in_ok-check_mapped.ensures.sound p out sound).found)));
       shows = let at : c.in_ok-offset.offset ≡ c.args.mapping.now.offset + c.args.at = c.in_ok-offset.ensures.place in
-          λ some. subst (λ o. IfOk c.read_as.result (λ done. Shows (disk_of view below c.read_as.new.self) o c.read_as.new.bytes)) at
+          λ some. subst (λ o. IfOk c.read_as.result (λ done. Shows (disk_of view below out.place c.read_as.new.self) o c.read_as.new.bytes)) at
           (c.read_as.ensures.shows p out ((c.in_ok-check_mapped.ensures.sound p out sound).keeps).sound ((c.in_ok-check_mapped.ensures.sound p out sound).mapped some));
     }
 

@@ -4,6 +4,7 @@ use Rattle.qcow2_image.proofs.Lemmas.{caches_moved, with_caches, none_found, beh
 use Rattle.qcow2_image.specs.HeldMappings.{named_place as place_named}
 use Rattle.qcow2_image.proofs.Map.Looked.{compressed_there}
 use Rattle.qcow2_image.proofs.image.Qcow2.run_from.Goals as goal
+use Rattle.qcow2_image.proofs.Images.Places.{alone_of}
 
 -- an offset has its own L2 table, or none
 abbrev HasOwn : {S F : Type 0} → Qcow2 S F → ℕ → Option ℕ → Type 0
@@ -46,7 +47,7 @@ returns-in_ok-l2_get_or_insert-in-Some-clause-sound g c = λ p out sound.
       keeps = kept;
       known = stay.known;
       may_fail = answers_met (MayFailLooking (IsCacheHeld old out)) c.run_in_table.result (c.run_in_table.ensures.reads p kept.sound.file entry (omega (arith, limit)));
-      run = IfOk-weaker c.run_in_table.result _ _ (λ x run. subst (λ m. IsRunFrom view image c.args.offset m x.0 x.1) limit run) (c.run_in_table.ensures.run p kept.sound.file kept.sound.alone entry (omega (arith, limit)));
+      run = IfOk-weaker c.run_in_table.result _ _ (λ x run. subst (λ m. IsRunFrom view image c.args.offset m x.0 x.1) limit run) (c.run_in_table.ensures.run p kept.sound.file (alone_of kept.sound) entry (omega (arith, limit)));
     }
 
 pub returns-in-None-clause-sound : goal.returns-in-None-clause-sound

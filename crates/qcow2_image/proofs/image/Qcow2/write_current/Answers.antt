@@ -5,6 +5,7 @@ use Rattle.qcow2_image.proofs.Common.{overwritten, view_in, OutdatedMapping, Ove
 use Rattle.qcow2_image.proofs.Write.PutParts.{mapped_in_place, puts_nothing, puts_refused, puts_then, puts_written}
 use Rattle.qcow2_image.proofs.Write.Hosted.{hosts_behind_header}
 use Rattle.qcow2_image.proofs.Write.ToldPuts.{written_current, written_plain, checked_unseen, put_beside, put_refused, put_unwritten}
+use Rattle.qcow2_image.proofs.Images.Places.{alone_of}
 
 pub returns-in_err-check_in_place-clause-in_place : goal.returns-in_err-check_in_place-clause-in_place
 returns-in_err-check_in_place-clause-in_place g c = λ none p out sound.
@@ -56,7 +57,7 @@ returns-clause-puts g c = λ fits some out k placed sound.
           let bytes = c.args.bytes.now in
           let still = quiet_sound view below out old mid (λ _. quiet) sound in
           let host_is : c.in-Some.host ≡ p.offset + at = c.in-Some.ensures.1 in
-          let w = c.write_data.ensures.puts.written still.alone in
+          let w = c.write_data.ensures.puts.written (alone_of still) in
           let contents = (view_in view mid.file).contents in
           let storage = c.write_data.new.self.file.storage in
           let done = subst (λ o. IsWriteOutcome c.write_data.result contents (overwritten contents o bytes) (view_in view c.write_data.new.self.file).contents) host_is (w.written still.file.honest) in

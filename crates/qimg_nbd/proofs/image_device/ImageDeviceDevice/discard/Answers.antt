@@ -2,6 +2,7 @@ use Rattle.qimg_nbd.proofs.Common.{[], to_zero}
 use Rattle.qimg_nbd.proofs.Errors.{clearing_cause, failed_clearing, fails_answered, fails_refused, same_device}
 use Rattle.qimg_nbd.proofs.Images.{cleared, refused_same}
 use Rattle.qimg_nbd.proofs.image_device.ImageDeviceDevice.discard.Goals as goal
+use Rattle.qcow2_image.specs.ImageInvariant.{in_image}
 
 pub returns-in-Ok-clause-step : goal.returns-in-Ok-clause-step
 returns-in-Ok-clause-step g c = same_device g.S.Storage.view g.F.BackingDisk.backing c.args.self.now.image c.discard_to_zero_unsafe.new.self c.discard_to_zero_unsafe.ensures.step.image (λ f. (failed_clearing g.S.Storage.view g.F.BackingDisk.backing c.args.self.now.image c.discard_to_zero_unsafe.new.self c.args.offset c.args.length to_zero c.discard_to_zero_unsafe.result c.discard_to_zero_unsafe.ensures.fails.early f).1)
@@ -10,7 +11,7 @@ pub returns-in-Ok-clause-fails : goal.returns-in-Ok-clause-fails
 returns-in-Ok-clause-fails g c = fails_answered _ _ c.discard_to_zero_unsafe.result _ _ c.in-Ok.is (λ f. (failed_clearing g.S.Storage.view g.F.BackingDisk.backing c.args.self.now.image c.discard_to_zero_unsafe.new.self c.args.offset c.args.length to_zero c.discard_to_zero_unsafe.result c.discard_to_zero_unsafe.ensures.fails.early f).0)
 
 pub returns-in-Ok-clause-sound : goal.returns-in-Ok-clause-sound
-returns-in-Ok-clause-sound g c = cleared g.S.Storage.view g.F.BackingDisk.backing c.args.self.now.image c.discard_to_zero_unsafe.new.self c.args.offset c.args.length c.in-Ok.part _ (c.in-Ok.ensures.sound.sees [])
+returns-in-Ok-clause-sound g c = cleared g.S.Storage.view g.F.BackingDisk.backing c.args.self.now.image c.discard_to_zero_unsafe.new.self c.args.offset c.args.length c.in-Ok.part _ (c.in-Ok.ensures.sound.sees (in_image []))
 
 pub returns-in-Err-clause-step : goal.returns-in-Err-clause-step
 returns-in-Err-clause-step g c = same_device g.S.Storage.view g.F.BackingDisk.backing c.args.self.now.image c.discard_to_zero_unsafe.new.self c.discard_to_zero_unsafe.ensures.step.image (λ f. (failed_clearing g.S.Storage.view g.F.BackingDisk.backing c.args.self.now.image c.discard_to_zero_unsafe.new.self c.args.offset c.args.length to_zero c.discard_to_zero_unsafe.result c.discard_to_zero_unsafe.ensures.fails.early f).1)
@@ -20,4 +21,4 @@ returns-in-Err-clause-fails g c = fails_refused _ _ c.discard_to_zero_unsafe.res
     (clearing_cause g.S.Storage.view g.F.BackingDisk.backing c.args.self.now.image c.discard_to_zero_unsafe.new.self c.args.offset c.args.length to_zero c.discard_to_zero_unsafe.result c.in-Err.refusal c.in-Err.is c.discard_to_zero_unsafe.ensures.fails.early c.in-Err.ensures.fails.late)
 
 pub returns-in-Err-clause-sound : goal.returns-in-Err-clause-sound
-returns-in-Err-clause-sound g c = refused_same g.S.Storage.view g.F.BackingDisk.backing c.args.self.now.image c.discard_to_zero_unsafe.new.self _ _ (c.in-Err.ensures.sound.sees [])
+returns-in-Err-clause-sound g c = refused_same g.S.Storage.view g.F.BackingDisk.backing c.args.self.now.image c.discard_to_zero_unsafe.new.self _ _ (c.in-Err.ensures.sound.sees (in_image []))
