@@ -106,12 +106,13 @@ pub use Rattle.qcow2_image.specs.ImageSteps.{ImageFails, ImageStep, ImageStepWhe
 pub use Rattle.qcow2_image.specs.InternalSteps.{pending_with_listed, ListGrows, InternalStep, InternalFreeingStep, NamesOwn, KeepsCopied, Ensures, InternalFillingStep, RefusedFillingStep, RefusedStep, FreesLater, Pins, HoldsTable, old_data_by, freed_by, FreesListed, HoldsAll, is_announced, IsFilled, AllocatesData, SameHeld, IsKeptAlone, IsGained, InterruptedStep, DropsNothing, EntersMapping, AreThere, IsInHeldCluster, InterruptedPart, EntersCluster, Gains}
 pub use Rattle.qcow2_image.specs.Invalidated.{RespectsPrepared, HoldsNoTable, IsAtRest, IsReasonAgainstPlaces, IsReasonAgainstReading, IsOfPrepared, IsStillInUse, MayFailToInvalidate, KeepsTables, ReadsPlaces, ReplacesTables, reftable_in, ReadsTables, ArePlacesFor, DropsCached, IsAsStored, IsReasonNotToRead, ReadsAnew, HoldsPinnedAlone, WritesNothing}
 pub use Rattle.qcow2_image.specs.L1Entries.{ReachesOffset, ReachingStays, HasOwnTable, NeedsOverflowingL1Entry, IsPlacedNear, HasNearEntry, L1EntryOverflows, EndsBefore, HasOwnEntry}
+pub use Rattle.qcow2_image.specs.ChangeCauses.{AreCausesOf, Causes, causes_if, HasCompressedCached, IsCompressedStill}
 pub use Rattle.qcow2_image.specs.UnalignedTables.{HasUnalignedCached, HasUnalignedOffset, KeepsOffsets}
 pub use Rattle.qcow2_image.specs.LookupCauses.{HasUnalignedAt, HasUnalignedBehind, HasUnalignedEntry, HasUnalignedFrom, IsKindIn, IsTableUnaligned, IsUnalignedIn, MayFailFinding, MayFailFindingAgain, MayFailPuttingAt, MayFailReadingFound, MayFailTelling}
 pub use Rattle.qcow2_image.specs.Limits.{IfLimit, GoesTo, IsLimited, l1_clusters, IsLimitedAmong, IsLimitedIn, IsLimitedTaking, IsLimitedInternal, IsLimitedWith, LacksPlace, entries_reaching}
 pub use Rattle.qcow2_image.specs.ListedClusters.{ListsNoMore}
 pub use Rattle.qcow2_image.specs.LongerTables.{RefusedMove, with_table, without_l1, StandsWhole, InternalMove, NamesTable, clusters_of, IsLongerL1, PlacesTable, AllocatesTable, MakesEntry, run_of_table, listed, InterruptedMove, NamesTaken, Lengthens}
-pub use Rattle.qcow2_image.specs.MayFail.{MayFailCopying, MayFailWriting, MayFailLooking, HasCompressedIn, MayFailGrowing, KeepsL1Place, IsCacheHeld, IsSpecial, CopiesCompressed, HasNearEntries, MayFailAllocating, MayFailAlone, MayFailMapped, MayFailReading, HasUnannounced, IsCopiedCompressed, MayFailLookingAgain, MayFailPutting, copied_end}
+pub use Rattle.qcow2_image.specs.MayFail.{MayFailCopying, MayFailFilling, MayFailWriting, MayFailLooking, HasCompressedIn, MayFailGrowing, KeepsL1Place, IsCacheHeld, IsSpecial, CopiesCompressed, HasNearEntries, MayFailAllocating, MayFailAlone, MayFailMapped, MayFailReading, HasUnannounced, IsCopiedCompressed, MayFailLookingAgain, MayFailPutting, copied_end}
 pub use Rattle.qcow2_image.specs.MovedTables.{MovesTables, CoversStay}
 pub use Rattle.qcow2_image.specs.NewTables.{IsFaultOrLacksTable, MayName, SaysKnown, IsStored, StandsReady, NamesCopied, replacing, LacksTable, OwnsTable, PlacesNewTable, NamesNew, WritesNew, EntersTable, IsFaultOrKeepsL1Table, NamesShared, Stores}
 pub use Rattle.qcow2_image.specs.Noted.{ChangesRose, FailsOnceWritten, NoFewerChanges, RecordsChanges, PutsOnce, CommitFailsOnceWritten, CountsImageChanges, HasMoreChanges, MarksOnceChanged, RecordsPart}
@@ -123,7 +124,7 @@ pub use Rattle.qcow2_image.specs.PreparedPlaces.{IsMarkedBehind, IsOwn, IsPlaced
 pub use Rattle.qcow2_image.specs.Preparing.{IsTaken, IsAnswered, IsPlaceOf, IsWritableAt, IsHeldAlone, IsKeptBy}
 pub use Rattle.qcow2_image.specs.Ranges.{ReleasesOneMapping, MayGoOn, AllocatesDataAt, Ends, FindsBehind, ClusterMappingsAt, StandsBehind, BeginsInKept, IsExtended, BreaksOff, GainsAt, IsFirst, IsSharedAt, Reaches, HasRoomForRange, IsLongerMapping, IsNext, EndsWithCluster, GoesNext, GoesOn}
 pub use Rattle.qcow2_image.specs.Readable.{IsJustifiedRefusal, IsNewlyOpened, OpeningStep, files_missing, IsReasonAgainstTables, NeededTablesRead, OpensRightly, IsTableRefused, HeaderSuits, IsReadable}
-pub use Rattle.qcow2_image.specs.Refusals.{passes, refuse_if, refuses_to_prepare, unusable, MayFail, MayFailIf, MayFailOn, MayFailToRead, MayFailToGrow, FreesRefused, MayFailPreparing, failed_after, MarksFailed, MarksRefused, IsUnlimited, IsFaultOrLimit, failed_by}
+pub use Rattle.qcow2_image.specs.Refusals.{passes, refuse_if, refuses_to_prepare, unusable, MayFail, MayFailIf, MayFailOn, MayFailUncopied, MayFailToRead, MayFailToGrow, FreesRefused, MayFailPreparing, failed_after, MarksFailed, MarksRefused, IsUnlimited, IsFaultOrLimit, failed_by}
 pub use Rattle.qcow2_image.specs.Resizing.{GrowsTo, all_given_by_grow, refuses_to_resize, takes_over, boundary_in, RefusesUnchanged, SetsSize, WritesSize, WritesSizeLast, GrowsTables, LacksZeros, Shrinks, DiscardsNext, all_given_by_shrink, all_given_by_shrunk, RefusesDiscard, StopsAt, StopsStep, IsTurnEnd, DiscardsPart, DiscardsTail, TurnStep, DiscardsStep, LeavesTables, IsResized, size_after, GrowsLast, MayFailShrinking, CantDiscard, ShowsBelow, MayStand, ShrinksSoundly, DiscardsClusters}
 pub use Rattle.qcow2_image.specs.Unwritten.{ContentsStayThroughout, ReadsQuietly, LoadsQuietly, LooksQuietly, OnlyLooks}
 pub use Rattle.qcow2_image.specs.WriteSteps.{KeepingStep, AllocatingStep, BeginsSoundly, PuttingCall, FillingStep, AllocatingStepWhere, keeping, CanEnter}

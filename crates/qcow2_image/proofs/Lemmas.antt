@@ -13,7 +13,7 @@ pub use Rattle.qcow2_image.proofs.Call.Refused.{refuses_left, refused_then, stay
 pub use Rattle.qcow2_image.proofs.Call.Slots.{get_set_same, set_same, set_set, set_slot_same, set_slot_set, over_all_two, get_set, over_all_put, slot_set, length_set}
 pub use Rattle.qcow2_image.proofs.Call.Stepped.{Steps, stepped_sound, stepped_works}
 pub use Rattle.qcow2_image.proofs.Call.Unlimited.{short_fault, looking_unlimited, fault_unlimited, in_use_unlimited, short_unlimited, storage_unlimited}
-pub use Rattle.qcow2_image.proofs.Call.WriteSteps.{filling_none, keeping_of_filling, keeping_of_read, taking_none, filling_written, taking_of_filling, filling_of_read, filling_then, taking_listed, taking_then, filling_pinned, taking_where, taking_with, where_then, where_with, keeping_then}
+pub use Rattle.qcow2_image.proofs.Call.WriteSteps.{filling_none, keeping_of_filling, keeping_of_read, taking_none, filling_written, taking_of_filling, filling_of_read, filling_then, taking_listed, taking_then, filling_pinned, taking_where, where_then, where_with, keeping_then}
 pub use Rattle.qcow2_image.proofs.Clear.Between.{clears_between, no_pins, pinned_under, under_pinned}
 pub use Rattle.qcow2_image.proofs.Clear.ClearCalls.{begins, clear_works, clears_early, clears_nothing, if_some, not_refused, refused_for, ungiven_early, whole_in, under_after, works_if, clear_interruption, clear_covers, clear_done, clear_refused, fault_interruption, under_before, ungiven_interruption, ungiven_refused, err_is, covers_after}
 pub use Rattle.qcow2_image.proofs.Clear.Touched.{none_answered, some_answered, rounded_from}

@@ -43,3 +43,4 @@ pub mod Storages
 pub mod UnalignedTables
 pub mod Invalidated
 pub mod SizeSteps
+pub mod ChangeCauses

@@ -21,7 +21,8 @@ use Rattle.qcow2_image.specs.declared.mapping.MappingKind.TheVariants as Kind
 use Rattle.qcow2_image.specs.declared.prepared.Prepared.{Prepared}
 use Rattle.qcow2_image.specs.Found.{l1_index_of}
 use Rattle.qcow2_image.specs.Prepared.{offset_of, table_of}
-use Rattle.qcow2_image.specs.Refusals.{IsFaultOrLimit, MayFailOn}
+use Rattle.qcow2_image.specs.ChangeCauses.{IsCompressedStill, causes_if}
+use Rattle.qcow2_image.specs.Refusals.{IsFaultOrLimit, MayFailIf}
 use Rattle.qcow2_image.specs.InternalSteps.{is_announced}
 
 -- Why a call that allocates is refused while no mapping is prepared: a fault; a limit; 7, if bytes of a compressed cluster would have to be copied; or 20, if an L1 entry past 64 bits would have to be written.
@@ -87,9 +88,13 @@ MayFailReading kind e = IsFault e ⊎ (((e ≡ I.Compressed) × IsSpecial kind) 
 abbrev pub MayFailWriting : ImageError → Type 0
 MayFailWriting e = IsFault e ⊎ (e ≡ I.Metadata)
 
--- Why bytes of this kind are not copied: as a change during its work; or 10, if they lie past the end.
+-- Why bytes of this kind are not copied: as a change during its work, 7 only if they are compressed; or 10, if they lie past the end.
 abbrev pub MayFailCopying : {S F : Type 0} → Qcow2 S F → MappingKind → ImageError → Type 0
-MayFailCopying new kind e = MayFailOn new e ⊎ ((e ≡ I.OutdatedMapping) × (kind ≡ Kind.Eof))
+MayFailCopying new kind e = MayFailIf (causes_if new (IsSpecial kind)) e ⊎ ((e ≡ I.OutdatedMapping) × (kind ≡ Kind.Eof))
+
+-- Why a cluster with this old mapping is not filled: as a change during its work, 7 only if the mapping is compressed. The same L2 tables are cached then.
+abbrev pub MayFailFilling : {S F : Type 0} → (old new : Qcow2 S F) → L2Mapping → ImageError → Type 0
+MayFailFilling old new mapping = MayFailIf (causes_if new (IsCompressedStill old.file.caches new.file.caches mapping))
 
 -- ---- lookups, reads and puts on a sound image, whatever is prepared
 

@@ -8,7 +8,7 @@ use Rattle.qcow2_alloc.specs.ImageError.{IsFault}
 use Rattle.qcow2_alloc.specs.declared.error.ImageError.{ImageError}
 use Rattle.qcow2_alloc.specs.declared.error.ImageError.TheVariants as I
 use Rattle.qcow2_image.specs.declared.image.Qcow2.{Qcow2}
-use Rattle.qcow2_image.specs.UnalignedTables.{HasUnalignedOffset}
+use Rattle.qcow2_image.specs.ChangeCauses.{Causes, any_cause, causes_if, causes_of}
 use Rattle.qcow2_image.specs.Image.{HasNothingToFree, HasPinnedTable, has_noted_change, is_failed, is_writable, lacks_data_file, size_of, number_of}
 
 -- A refusal, if a test says so.
@@ -37,33 +37,33 @@ module _ {S F : Type 0} (image : Qcow2 S F) where
   abbrev pub refuses_mapping : ℕ → Option ImageError
   refuses_mapping number = option_or unusable (refuse_if (not (number == number_of image)) I.ForeignState)
 
--- The refusals that come during the work, after all checks: 4, if this holds, and 7, 8, 13, 14, 15, 19 and 20.
-abbrev pub MayFailIf : Type 0 → ImageError → Type 0
-MayFailIf unaligned I.ReadOnly = ⊥
-MayFailIf unaligned I.BeyondSize = ⊥
-MayFailIf unaligned I.Version = ⊥
-MayFailIf unaligned I.UnalignedTable = unaligned
-MayFailIf unaligned I.InvalidOption = ⊥
-MayFailIf unaligned I.Preallocation = ⊥
-MayFailIf unaligned I.Compressed = Unit {0}
-MayFailIf unaligned I.InUse = Unit {0}
-MayFailIf unaligned I.TablePrepared = ⊥
-MayFailIf unaligned I.OutdatedMapping = ⊥
-MayFailIf unaligned I.ForeignState = ⊥
-MayFailIf unaligned I.Dependency = ⊥
-MayFailIf unaligned I.Limit = Unit {0}
-MayFailIf unaligned I.Memory = Unit {0}
-MayFailIf unaligned I.Storage = Unit {0}
-MayFailIf unaligned I.Failed = ⊥
-MayFailIf unaligned I.MappingPrepared = ⊥
-MayFailIf unaligned (I.NotCompressed offset) = ⊥
-MayFailIf unaligned I.Metadata = Unit {0}
-MayFailIf unaligned I.Overflow = Unit {0}
-MayFailIf unaligned (I.StillInUse tables) = ⊥
+-- The refusals that come during the work, after all checks: 4 and 7, each for its cause, and 8, 13, 14, 15, 19 and 20.
+abbrev pub MayFailIf : Causes → ImageError → Type 0
+MayFailIf causes I.ReadOnly = ⊥
+MayFailIf causes I.BeyondSize = ⊥
+MayFailIf causes I.Version = ⊥
+MayFailIf causes I.UnalignedTable = causes.unaligned
+MayFailIf causes I.InvalidOption = ⊥
+MayFailIf causes I.Preallocation = ⊥
+MayFailIf causes I.Compressed = causes.compressed
+MayFailIf causes I.InUse = Unit {0}
+MayFailIf causes I.TablePrepared = ⊥
+MayFailIf causes I.OutdatedMapping = ⊥
+MayFailIf causes I.ForeignState = ⊥
+MayFailIf causes I.Dependency = ⊥
+MayFailIf causes I.Limit = Unit {0}
+MayFailIf causes I.Memory = Unit {0}
+MayFailIf causes I.Storage = Unit {0}
+MayFailIf causes I.Failed = ⊥
+MayFailIf causes I.MappingPrepared = ⊥
+MayFailIf causes (I.NotCompressed offset) = ⊥
+MayFailIf causes I.Metadata = Unit {0}
+MayFailIf causes I.Overflow = Unit {0}
+MayFailIf causes (I.StillInUse tables) = ⊥
 
--- The same, with 4 for any cause.
+-- The same, for any cause.
 abbrev pub MayFail : ImageError → Type 0
-MayFail = MayFailIf (Unit {0})
+MayFail = MayFailIf any_cause
 
 -- The refusals of a read during its work: 4, 7, 8, 13, 14 and 15.
 abbrev pub MayFailToRead : ImageError → Type 0
@@ -90,9 +90,13 @@ MayFailToRead I.Overflow = ⊥
 MayFailToRead (I.StillInUse tables) = ⊥
 
 module _ {S F : Type 0} (new : Qcow2 S F) where
-  -- The refusals of a change during its work: 4 only if an offset is not on a cluster, by the tables in memory.
+  -- The refusals of a change during its work: 4 only if an offset is not on a cluster, and 7 only if an entry is compressed, by the tables in memory.
   abbrev pub MayFailOn : ImageError → Type 0
-  MayFailOn = MayFailIf (HasUnalignedOffset new)
+  MayFailOn = MayFailIf (causes_of new)
+
+  -- The refusals of a part that copies no old bytes: never 7.
+  abbrev pub MayFailUncopied : ImageError → Type 0
+  MayFailUncopied = MayFailIf (causes_if new ⊥)
 
   -- The refusals of a prepare during its work: also 9, while an L2 table is pinned by another mapping.
   abbrev pub MayFailPreparing : ImageError → Type 0

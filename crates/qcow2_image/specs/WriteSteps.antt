@@ -15,7 +15,7 @@ use Rattle.qcow2_disk.specs.Found.{IsFoundIn, rest_of_table}
 use Rattle.qcow2_disk.specs.Mappings.{is_copied_data}
 use Rattle.qcow2_alloc.specs.CachePins.{l2_pins}
 use Rattle.qcow2_alloc.specs.ImageFile.{KeepsHeader, known_in}
-use Rattle.qcow2_alloc.specs.KeptMarks.{KeepsFileNotes}
+use Rattle.qcow2_alloc.specs.KeptMarks.{KeepsFileNotes, KeepsHeldTables}
 use Rattle.qcow2_alloc.specs.declared.error.ImageError.{ImageError}
 use Rattle.qcow2_alloc.specs.declared.error.ImageError.TheVariants.{Compressed, Failed, ForeignState, OutdatedMapping, ReadOnly, TablePrepared}
 use Rattle.qcow2_alloc.specs.ImageError.{IsFault, IsFaultOrLimit}
@@ -120,12 +120,13 @@ module _ {S F : Type 0} (view : S → StorageView) where
     pub header : new.file.header ≡ old.file.header
     pub list : ListStays old new
 
-  -- A part that may allocate clusters: the header stays the same, except the pointer to the reftable.
+  -- A part that may allocate clusters: the header stays the same, except the pointer to the reftable, and the same L2 tables are cached.
   pub record AllocatingStep (old new : Qcow2 S F) : Type 0 where
     pub stays : ImageStays old new
     pub notes : KeepsFileNotes view old.file new.file
     pub header_cluster : PreservesHeaderCluster view old new
     pub header : KeepsHeader old.file.header new.file.header
+    pub cached : KeepsHeldTables old.file.caches new.file.caches
 
   -- A part that may allocate clusters, and leaves the header's cluster the same under a condition.
   pub record AllocatingStepWhere (premise : Type 0) (old new : Qcow2 S F) : Type 0 where
@@ -134,7 +135,7 @@ module _ {S F : Type 0} (view : S → StorageView) where
     pub header_cluster : premise → PreservesHeaderCluster view old new
     pub header : KeepsHeader old.file.header new.file.header
 
-  -- A part that fills a cluster: it leaves the allocator and the L1 table the same.
+  -- A part that fills a cluster: it leaves the allocator, the L1 table and the cached L2 tables the same.
   pub record FillingStep (old new : Qcow2 S F) : Type 0 where
     pub stays : ImageStays old new
     pub notes : KeepsFileNotes view old.file new.file
@@ -143,6 +144,7 @@ module _ {S F : Type 0} (view : S → StorageView) where
     pub list : ListStays old new
     pub allocator : new.allocator ≡ old.allocator
     pub table : new.l1_table ≡ old.l1_table
+    pub cached : KeepsHeldTables old.file.caches new.file.caches
 
 module _ {S F : Type 0} (view : S → StorageView) (backing : F → BackingView) (old new : Qcow2 S F) where
   -- A pending cluster that no mapping has is filled with what the guest sees of the offset's guest cluster, except where the caller promised to overwrite.

@@ -4,7 +4,8 @@ ghost use Rattle.qcow2_image.specs.ImageSteps.{FailsUnlimited, ImageStep};
 ghost use Rattle.std.specs.Prelude.{◌≡◌, ◌/◌, ◌^◌, ◌<◌, ◌≤◌, ℕ, List, Option, None, Some, true, false, replicate, IfOk};
 ghost use Rattle.std.specs.Prelude.{IfErr, IfSome, ◌⊎◌};
 ghost use Rattle.qcow2_alloc.specs.ImageError.{IsFault};
-ghost use Rattle.qcow2_image.specs.MayFail.{HasUnannounced, IsCopiedCompressed, MayFailCopying, MayFailReading};
+ghost use Rattle.qcow2_image.specs.MayFail.{HasUnannounced, IsCopiedCompressed};
+ghost use Rattle.qcow2_image.specs.MayFail.{MayFailCopying, MayFailFilling, MayFailReading};
 ghost use Rattle.qcow2_laws.specs.CrashInvariant.{Pending};
 ghost use Rattle.qcow2_alloc.specs.ImageFile.{known_in};
 ghost use Rattle.image_access.specs.Contents.{zeroed};
@@ -15,7 +16,7 @@ ghost use Rattle.qcow2_image.specs.CopyRange.{HasByte};
 ghost use Rattle.qcow2_image.specs.ImageInvariant.{ImageInvariant, Mappings};
 ghost use Rattle.qcow2_image.specs.Found.{IsMappedAs};
 ghost use Rattle.qcow2_image.specs.declared.prepared.Prepared.{Prepared};
-ghost use Rattle.qcow2_image.specs.Refusals.{MayFailOn};
+ghost use Rattle.qcow2_image.specs.Refusals.{MayFailUncopied};
 ghost use Rattle.qcow2_metadata.specs.L2Mapping.{IsHostCluster, IsInReach, greatest_offset};
 ghost use Rattle.qcow2_metadata.specs.Cover.{cover};
 ghost use Rattle.qcow2_metadata.specs.Header.{cluster_size};
@@ -40,7 +41,8 @@ impl<S: Storage, F: WrappedFormat<S>> Qcow2<S, F> {
         requires nameable { IsHostCluster self.old.file.header.fields.cluster_bits cluster }
         requires reach { IsInReach old.now }
         ensures step { FillingStep S.view self.old self.new }
-        ensures fails { FailsUnlimited S.view F.backing self.old self.new result (MayFailOn self.new) }
+        ensures fails { FailsUnlimited S.view F.backing self.old self.new result
+            (MayFailFilling self.old self.new old.now) }
         ensures may_fail { 0 < cluster → IfErr result
             (λ e. IsFault e ⊎ ((e ≡ ImageError.Compressed)
             × IsCopiedCompressed self.old.file.header.fields old.now offset length overwrite)) }
@@ -69,7 +71,7 @@ impl<S: Storage, F: WrappedFormat<S>> Qcow2<S, F> {
     ) -> Result<(), ImageError>
         requires reach { host ≤ greatest_offset }
         ensures step { ImageStep S.view self.old self.new }
-        ensures fails { FailsUnlimited S.view F.backing self.old self.new result (MayFailOn self.new) }
+        ensures fails { FailsUnlimited S.view F.backing self.old self.new result (MayFailUncopied self.new) }
         ensures fault { cluster_size self.old.file.header.fields ≤ host → IfErr result IsFault }
         ensures rest { self.new ≡ record self.old {
           file = record self.old.file { storage = self.new.file.storage };
@@ -139,7 +141,7 @@ impl<S: Storage, F: WrappedFormat<S>> Qcow2<S, F> {
     // refused 19 (metadata).
     fn write_zeros(&mut self, at: u64, length: u64) -> Result<(), ImageError>
         ensures step { ImageStep S.view self.old self.new }
-        ensures fails { FailsUnlimited S.view F.backing self.old self.new result (MayFailOn self.new) }
+        ensures fails { FailsUnlimited S.view F.backing self.old self.new result (MayFailUncopied self.new) }
         ensures puts { WritesData S.view self.old self.new at (replicate length 0)
             (λ b. zeroed b at length) result }
     {
@@ -155,7 +157,7 @@ impl<S: Storage, F: WrappedFormat<S>> Qcow2<S, F> {
     // Writes zeros as data to the image's own file. A place in cluster 0, which no entry has, is refused 19 (metadata).
     fn write_own_zeros(&mut self, at: u64, length: u64) -> Result<(), ImageError>
         ensures step { ImageStep S.view self.old self.new }
-        ensures fails { FailsUnlimited S.view F.backing self.old self.new result (MayFailOn self.new) }
+        ensures fails { FailsUnlimited S.view F.backing self.old self.new result (MayFailUncopied self.new) }
         ensures puts { WritesOwnData S.view self.old self.new at (replicate length 0) result }
     {
         if at < self.file.header.cluster_size() {

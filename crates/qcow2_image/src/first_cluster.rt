@@ -12,7 +12,8 @@ ghost use Rattle.qcow2_alloc.specs.MetadataCaches.{l2_at};
 ghost use Rattle.qcow2_alloc.specs.declared.error.ImageError.TheVariants.{TablePrepared};
 ghost use Rattle.qcow2_image.specs.Image.{ImageStays, is_beside, is_writable, number_of, place_in};
 ghost use Rattle.qcow2_image.specs.Prepared.{image_of, length_of, offset_of};
-ghost use Rattle.qcow2_image.specs.Refusals.{MayFailOn, MayFailPreparing};
+ghost use Rattle.qcow2_image.specs.MayFail.{MayFailFilling};
+ghost use Rattle.qcow2_image.specs.Refusals.{MayFailPreparing, MayFailUncopied};
 ghost use Rattle.qcow2_image.specs.declared.prepared.Prepared.{Prepared};
 ghost use Rattle.qcow2_image.specs.PreparedPlaces.{IsOwn, IsPlacedBehind};
 ghost use Rattle.qcow2_image.specs.Ranges.{BeginsInKept, HasRoomForRange};
@@ -81,7 +82,8 @@ impl<S: Storage, F: WrappedFormat<S>> Qcow2<S, F> {
         requires other { IsNotInPlace self.old old.now }
         requires room { HasRoomForOne room }
         ensures step { AllocatingStepWhere S.view (0 < table) self.old self.new }
-        ensures fails { ImageFails S.view F.backing self.old self.new result (MayFailOn self.new) }
+        ensures fails { ImageFails S.view F.backing self.old self.new result
+            (MayFailFilling self.old self.new old.now) }
         ensures sound { BeginsIn S.view F.backing self.old self.new table offset length overwrite old.now result }
         ensures begins { IfOk result (IsBegunIn self.old offset table (HasMemoryOf (vec_capacity room))) }
         ensures kept { IfOk result (BeginsInKept self.old.file.header.fields offset old.now) }
@@ -109,7 +111,7 @@ impl<S: Storage, F: WrappedFormat<S>> Qcow2<S, F> {
         requires behind { IsPlacedBehind self.old host }
         requires room { HasRoomForOne room }
         ensures step { FillingStep S.view self.old self.new }
-        ensures fails { FailsUnlimited S.view F.backing self.old self.new result (MayFailOn self.new) }
+        ensures fails { FailsUnlimited S.view F.backing self.old self.new result (MayFailUncopied self.new) }
         ensures sound { BeginsIn S.view F.backing self.old self.new table offset length overwrite
             (keeping host) result }
         ensures begins { IfOk result (IsBegunIn self.old offset table (HasMemoryOf (vec_capacity room))) }
@@ -133,7 +135,8 @@ impl<S: Storage, F: WrappedFormat<S>> Qcow2<S, F> {
         requires other { IsNotInPlace self.old old.now }
         requires room { HasRoomForOne room }
         ensures step { FillingStep S.view self.old self.new }
-        ensures fails { ImageFails S.view F.backing self.old self.new result (MayFailOn self.new) }
+        ensures fails { ImageFails S.view F.backing self.old self.new result
+            (MayFailFilling self.old self.new old.now) }
         ensures begins { IfOk result (IsBegunIn self.old offset table (HasMemoryOf (vec_capacity room))) }
         ensures place { IfOk result (λ p. offset_of p ≡ offset) }
     {
@@ -159,7 +162,8 @@ impl<S: Storage, F: WrappedFormat<S>> Qcow2<S, F> {
         requires other { IsNotInPlace self.old old.now }
         requires room { HasRoomForOne room }
         ensures step { AllocatingStepWhere S.view (0 < table) self.old self.new }
-        ensures fails { ImageFails S.view F.backing self.old self.new result (MayFailOn self.new) }
+        ensures fails { ImageFails S.view F.backing self.old self.new result
+            (MayFailFilling self.old self.new old.now) }
         ensures sound { BeginsIn S.view F.backing self.old self.new table offset length overwrite old.now result }
         ensures begins { IfOk result (IsBegunIn self.old offset table (HasMemoryOf (vec_capacity room))) }
     {
@@ -185,7 +189,7 @@ impl<S: Storage, F: WrappedFormat<S>> Qcow2<S, F> {
     #[tactic(auto, using(crate::proofs::Call::CacheErrors::in_use_met))]
     fn load_l2(&mut self, table: HostCluster) -> Result<(), ImageError>
         ensures step { ImageStepWhere S.view (0 < table) self.old self.new }
-        ensures fails { ImageFails S.view F.backing self.old self.new result (MayFailOn self.new) }
+        ensures fails { ImageFails S.view F.backing self.old self.new result (MayFailUncopied self.new) }
         ensures rest { self.new ≡ record self.old {
           file = record self.old.file {
             storage = self.new.file.storage;
@@ -251,7 +255,8 @@ impl<S: Storage, F: WrappedFormat<S>> Qcow2<S, F> {
         requires writable { IsTrue (is_writable self.old) }
         requires reach { IsInReach old.now }
         ensures step { AllocatingStep S.view self.old self.new }
-        ensures fails { ImageFails S.view F.backing self.old self.new result (MayFailOn self.new) }
+        ensures fails { ImageFails S.view F.backing self.old self.new result
+            (MayFailFilling self.old self.new old.now) }
         ensures nameable { IfOk result (λ p. IsHostCluster self.old.file.header.fields.cluster_bits p.first_cluster) }
         ensures elsewhere { IfOk result (λ p. 0 < p.first_cluster) }
         ensures sound { GainsCluster S.view F.backing self.old self.new offset length overwrite old.now result }
@@ -270,7 +275,7 @@ impl<S: Storage, F: WrappedFormat<S>> Qcow2<S, F> {
     fn allocate_data_cluster(&mut self) -> Result<PendingClusters, ImageError>
         requires writable { IsTrue (is_writable self.old) }
         ensures step { AllocatingStep S.view self.old self.new }
-        ensures fails { ImageFails S.view F.backing self.old self.new result (MayFailOn self.new) }
+        ensures fails { ImageFails S.view F.backing self.old self.new result (MayFailUncopied self.new) }
         ensures nameable { IfOk result (λ p. IsHostCluster self.old.file.header.fields.cluster_bits p.first_cluster) }
         ensures elsewhere { IfOk result (λ p. 0 < p.first_cluster) }
         ensures list { ListGrows self.old self.new }

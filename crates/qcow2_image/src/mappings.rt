@@ -38,6 +38,8 @@ ghost use Rattle.qcow2_image.specs.ImageInvariant.{ImageInvariant, listed_run, p
 ghost use Rattle.qcow2_metadata.specs.Header.{entries_per_cluster, cluster_size};
 ghost use Rattle.qcow2_metadata.specs.Cover.{cover};
 ghost use Rattle.qcow2_image.specs.declared.mapping.Place.TheVariants.{Image};
+ghost use Rattle.qcow2_image.specs.ChangeCauses.{HasCompressedCached};
+ghost use Rattle.qcow2_disk.specs.Found.{IsCompressed};
 ghost use Rattle.qcow2_image.specs.UnalignedTables.{KeepsOffsets};
 ghost use Rattle.qcow2_image.specs.Refusals.{FreesRefused, MayFailOn, passes as passes_size, refuses_to_prepare};
 ghost use Rattle.qcow2_image.specs.Refusals.{IsUnlimited, MayFailOn, MayFailPreparing};
@@ -391,6 +393,7 @@ impl<S: Storage, F: WrappedFormat<S>> Qcow2<S, F> {
     ) -> Result<L2Mapping, ImageError>
         ensures reach { IfOk result IsInReach }
         ensures behind { IfOk result (IsMarkedBehind self.now) }
+        ensures held { IfOk result (λ mapping. IsCompressed mapping → HasCompressedCached self.now.file.caches) }
         ensures cause { IfErr result (MayFailOn self.now) }
         ensures limited { IfErr result IsUnlimited }
         ensures reads { (p : Pending) (i : ℕ) → FileInvariant S.view p self.now.file

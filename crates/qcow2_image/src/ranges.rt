@@ -8,7 +8,8 @@ ghost use Rattle.qcow2_metadata.specs.L2Mapping.{IsHostCluster, IsInReach};
 ghost use Rattle.qcow2_metadata.specs.Header.{cluster_size};
 ghost use Rattle.qcow2_disk.specs.Found.{rest_of_table};
 ghost use Rattle.qcow2_image.specs.Image.{is_writable};
-ghost use Rattle.qcow2_image.specs.Refusals.{MayFailOn};
+ghost use Rattle.qcow2_image.specs.MayFail.{MayFailFilling};
+ghost use Rattle.qcow2_image.specs.Refusals.{MayFailOn, MayFailUncopied};
 ghost use Rattle.qcow2_image.specs.declared.prepared.Prepared.{Prepared};
 ghost use Rattle.qcow2_image.specs.declared.image.Qcow2.{Qcow2};
 ghost use Rattle.qcow2_image.specs.CallParts.{IsReadied};
@@ -152,7 +153,8 @@ impl<S: Storage, F: WrappedFormat<S>> Qcow2<S, F> {
     ) -> Result<Option<ClusterMapping>, ImageError>
         requires reach { IsInReach old.now }
         ensures step { FillingStep S.view self.old self.new }
-        ensures fails { ImageFails S.view F.backing self.old self.new result (MayFailOn self.new) }
+        ensures fails { ImageFails S.view F.backing self.old self.new result
+            (MayFailFilling self.old self.new old.now) }
     {
         if host != offset {
             return Ok(None);
@@ -176,7 +178,8 @@ impl<S: Storage, F: WrappedFormat<S>> Qcow2<S, F> {
         requires writable { IsTrue (is_writable self.old) }
         requires reach { IsInReach old.now }
         ensures step { AllocatingStep S.view self.old self.new }
-        ensures fails { ImageFails S.view F.backing self.old self.new result (MayFailOn self.new) }
+        ensures fails { ImageFails S.view F.backing self.old self.new result
+            (MayFailFilling self.old self.new old.now) }
         ensures sound { SharesCluster S.view F.backing self.old self.new host offset length overwrite old.now result }
     {
         let bits = self.file.header.cluster_bits();
@@ -205,7 +208,8 @@ impl<S: Storage, F: WrappedFormat<S>> Qcow2<S, F> {
         requires writable { IsTrue (is_writable self.old) }
         requires reach { IsInReach old.now }
         ensures step { AllocatingStep S.view self.old self.new }
-        ensures fails { ImageFails S.view F.backing self.old self.new result (MayFailOn self.new) }
+        ensures fails { ImageFails S.view F.backing self.old self.new result
+            (MayFailFilling self.old self.new old.now) }
         ensures sound { GainsClusterAt S.view F.backing self.old self.new cluster offset length overwrite
             old.now result }
         ensures nameable { IfOk result (λ run. IsSome run → IsHostCluster self.old.file.header.fields.cluster_bits cluster) }
@@ -229,7 +233,7 @@ impl<S: Storage, F: WrappedFormat<S>> Qcow2<S, F> {
     ) -> Result<Option<PendingClusters>, ImageError>
         requires writable { IsTrue (is_writable self.old) }
         ensures step { AllocatingStep S.view self.old self.new }
-        ensures fails { ImageFails S.view F.backing self.old self.new result (MayFailOn self.new) }
+        ensures fails { ImageFails S.view F.backing self.old self.new result (MayFailUncopied self.new) }
         ensures sound { AllocatesAt S.view F.backing self.old self.new cluster result }
         ensures nameable { IfOk result (λ run. IsSome run → IsHostCluster self.old.file.header.fields.cluster_bits cluster) }
         ensures list { ListGrows self.old self.new }

@@ -1,6 +1,6 @@
 -- Refusals of the caches, of lookups and of reads are among the refusals that come during the work of a call.
 use Rattle.std.proofs.Common.{◌≡◌, ◌⊎◌, inl, inr, ℕ, sym, subst}
-use Rattle.qcow2_image.proofs.Common.{ImageError, IsFaultOr, IsOfTables, MayFailIf, MayFailFinding, MayFailReadingFound, MayFailTelling, MayFailToRead, Qcow2}
+use Rattle.qcow2_image.proofs.Common.{Causes, ImageError, IsFaultOr, IsOfTables, MayFailIf, MayFailFinding, MayFailReadingFound, MayFailTelling, MayFailToRead, Qcow2}
 use Rattle.qcow2_alloc.specs.declared.error.ImageError.TheVariants as I
 use Rattle.qcow2_image.proofs.Call.FailingErrors.{fault_met}
 
@@ -18,13 +18,13 @@ in_use_read : (Full P : Type 0) (e : ImageError) → ((e ≡ I.InUse) × Full) �
 in_use_read Full P e (inl used) = subst MayFailToRead (sym used.0) tt
 in_use_read Full P e (inr is) = fault_or_read P e is
 
-pub fault_or_met : (unaligned P : Type 0) (e : ImageError) → IsFaultOr P e → MayFailIf unaligned e
-fault_or_met unaligned P e (inl fault) = fault_met unaligned e fault
-fault_or_met unaligned P e (inr limit) = subst (MayFailIf unaligned) (sym limit.0) tt
+pub fault_or_met : (causes : Causes) (P : Type 0) (e : ImageError) → IsFaultOr P e → MayFailIf causes e
+fault_or_met causes P e (inl fault) = fault_met causes e fault
+fault_or_met causes P e (inr limit) = subst (MayFailIf causes) (sym limit.0) tt
 
-pub in_use_met : (unaligned Full P : Type 0) (e : ImageError) → ((e ≡ I.InUse) × Full) ⊎ IsFaultOr P e → MayFailIf unaligned e
-in_use_met unaligned Full P e (inl used) = subst (MayFailIf unaligned) (sym used.0) tt
-in_use_met unaligned Full P e (inr is) = fault_or_met unaligned P e is
+pub in_use_met : (causes : Causes) (Full P : Type 0) (e : ImageError) → ((e ≡ I.InUse) × Full) ⊎ IsFaultOr P e → MayFailIf causes e
+in_use_met causes Full P e (inl used) = subst (MayFailIf causes) (sym used.0) tt
+in_use_met causes Full P e (inr is) = fault_or_met causes P e is
 
 module _ {S F : Type 0} (old new : Qcow2 S F) (offset n : ℕ) (e : ImageError) where
   pub finding_tables : MayFailFinding old new offset n e → IsOfTables e

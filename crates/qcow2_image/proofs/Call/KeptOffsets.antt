@@ -1,14 +1,16 @@
 -- Causes in the tables in memory stay while these keep their offsets.
 use Rattle.std.proofs.Common.{◌≡◌, ◌+◌, ℕ, inl, inr, Option, Some, None, refl, sym, ap, ◌∙◌, subst}
 use Rattle.std.specs.Prelude.{IsSomeAnd, IfSome}
-use Rattle.qcow2_image.proofs.Common.{option_map, L2TableView, HeaderFields, HeaderView, EntryTableView, l2_at, Allocator, MetadataCaches, Qcow2, ImageError, HasUnalignedAt, HasUnalignedCached, HasUnalignedOffset, IsUnalignedIn, KeepsOffsets, MayFailFinding, MayFailOn, MayFailPuttingAt, Prepared, ReleasesOneMapping, StorageView, ImageFile, Result}
+use Rattle.qcow2_image.proofs.Common.{HasCompressedCached, MayFailFilling, L2Mapping, option_map, L2TableView, HeaderFields, HeaderView, EntryTableView, l2_at, Allocator, MetadataCaches, Qcow2, ImageError, HasUnalignedAt, HasUnalignedCached, HasUnalignedOffset, IsUnalignedIn, KeepsOffsets, MayFailFinding, MayFailOn, MayFailPuttingAt, Prepared, ReleasesOneMapping, StorageView, ImageFile, Result}
 use Rattle.qcow2_alloc.specs.Allocation.{HasUnaligned}
 use Rattle.qcow2_alloc.specs.KeptMarks.{KeepsHeldTables}
 use Rattle.qcow2_alloc.specs.TableCaches.{cleared_l2}
 use Rattle.qcow2_alloc.specs.Leaks.{FreesOff}
 use Rattle.qcow2_alloc.proofs.FreedEach.{each_tables}
+use Rattle.qcow2_disk.specs.Found.{IsCompressed}
+use Rattle.qcow2_image.specs.Found.{mapping_of}
 use Rattle.qcow2_image.specs.UnalignedTables.{IsTableUnaligned}
-use Rattle.qcow2_image.proofs.Call.FailingErrors.{fault_met, met_if}
+use Rattle.qcow2_image.proofs.Call.FailingErrors.{fault_met, met_if, met_with}
 use Rattle.qcow2_image.proofs.Call.CacheErrors.{in_use_met}
 use Rattle.qcow2_image.specs.PinnedTables.{own_table}
 use Rattle.qcow2_alloc.specs.declared.error.ImageError.TheVariants as I
@@ -24,6 +26,15 @@ cached_at h caches cluster offset n at = elim at.2 [
 entries_in : (now : Option L2TableView) (was : L2TableView) (guest : ℕ) → option_map cleared_l2 now ≡ Some (cleared_l2 was) → IsUnalignedIn was guest → (t : L2TableView) × (now ≡ Some t) × IsUnalignedIn t guest
 entries_in None was guest same off = absurd cc
 entries_in (Some t) was guest same off = let is : cleared_l2 t ≡ cleared_l2 was = cc in (t, λ i. Some t, subst (λ (x : L2TableView). IsUnalignedIn x guest) (sym is) off)
+
+compressed_in : (now : Option L2TableView) (was : L2TableView) (guest : ℕ) → option_map cleared_l2 now ≡ Some (cleared_l2 was) → IsCompressed (mapping_of was guest) → (t : L2TableView) × (now ≡ Some t) × IsCompressed (mapping_of t guest)
+compressed_in None was guest same is = absurd cc
+compressed_in (Some t) was guest same is = let same_table : cleared_l2 t ≡ cleared_l2 was = cc in (t, λ i. Some t, subst (λ (x : L2TableView). IsCompressed (mapping_of x guest)) (sym same_table) is)
+
+pub compressed_kept : {S : Type 0} (caches caches' : MetadataCaches S) → KeepsHeldTables caches caches' → HasCompressedCached caches → HasCompressedCached caches'
+compressed_kept caches caches' keeps has =
+    let found = compressed_in (l2_at caches' has.cluster) has.table has.guest (keeps has.cluster ∙ ap (option_map cleared_l2) has.is) has.compressed in
+    record { cluster = has.cluster; table = found.0; is = found.1; guest = has.guest; compressed = found.2 }
 
 pub cached_kept : {S : Type 0} (caches caches' : MetadataCaches S) → KeepsHeldTables caches caches' → HasUnalignedCached caches → HasUnalignedCached caches'
 cached_kept caches caches' keeps has =
@@ -42,7 +53,7 @@ module _ {S F : Type 0} {old new : Qcow2 S F} (keeps : KeepsOffsets old new) whe
   offsets_kept (inr (inr cached)) = inr (inr (cached_kept old.file.caches new.file.caches keeps.tables cached))
 
   pub met_kept : (e : ImageError) → MayFailOn old e → MayFailOn new e
-  met_kept e met = met_if offsets_kept e met
+  met_kept e met = met_if (record { unaligned = offsets_kept; compressed = compressed_kept old.file.caches new.file.caches keeps.tables }) e met
 
 -- a mapping is dropped
 same_blocks : (was now : Option Allocator) → now ≡ was → IfSome was (λ w. IsSomeAnd now (λ n. n.reftable ≡ w.reftable))
@@ -90,3 +101,11 @@ putting_met old new p at n e current (inr (inl again)) = elim again.1 [
 ]
 putting_met old new p at n e current (inr (inr (inl past))) = subst (MayFailOn new) (sym past.0) tt
 putting_met old new p at n e current (inr (inr (inr first))) = subst (MayFailOn new) (sym first.0) tt
+
+-- a cluster whose old mapping was looked up in a cached table is not filled
+pub filling_held : {S F : Type 0} (old new : Qcow2 S F) (mapping : L2Mapping) → (IsCompressed mapping → HasCompressedCached old.file.caches) → (e : ImageError) → MayFailFilling old new mapping e → MayFailOn new e
+filling_held old new mapping held e met = met_with new (λ still. compressed_kept old.file.caches new.file.caches still.tables (held still.compressed)) e met
+
+-- other parts of the call come before and after, which keep the cached tables
+pub filling_since : {S F : Type 0} (old mid new : Qcow2 S F) (mapping : L2Mapping) → KeepsHeldTables old.file.caches mid.file.caches → (e : ImageError) → MayFailFilling mid new mapping e → MayFailFilling old new mapping e
+filling_since old mid new mapping keeps e met = met_with new (λ still. record { compressed = still.compressed; tables = λ c. still.tables c ∙ keeps c }) e met

@@ -1,9 +1,16 @@
 -- The parts of a write: how they leave an image one after another, and what each promises in addition.
 use Rattle.std.proofs.Common.{◌≡◌, ℕ, List, refl, ap, ◌∙◌}
-use Rattle.qcow2_image.proofs.Common.{StorageView, ClustersToFreeEntry, notes_none, notes_then, header_same, header_then, ImageStays, is_beside, lacks_data_file, is_writable, ImageStep, ImageStepWhere, ReadingStep, FreesLater, Pins, FillingStep, KeepingStep, AllocatingStep, AllocatingStepWhere, Qcow2}
+use Rattle.qcow2_image.proofs.Common.{StorageView, ClustersToFreeEntry, notes_none, notes_then, header_same, header_then, ImageStays, is_beside, lacks_data_file, is_writable, ImageStep, ImageStepWhere, ReadingStep, FreesLater, Pins, FillingStep, KeepingStep, AllocatingStep, AllocatingStepWhere, Qcow2, MetadataCaches, l2_at, option_map}
+use Rattle.qcow2_alloc.specs.KeptMarks.{KeepsHeldTables}
+use Rattle.qcow2_alloc.specs.TableCaches.{cleared_l2}
+use Rattle.qcow2_image.specs.HeldMappings.{KeepsHeld}
 use Rattle.qcow2_image.proofs.Call.BehindHeader.{behind_by, behind_none, behind_tables, behind_then}
 use Rattle.qcow2_image.proofs.Call.ImageSteps.{stays_then, step_none}
 use Rattle.qcow2_image.proofs.Call.Notes.{pins_kept, same_kept}
+
+-- the caches are the same
+cached_same : {S F : Type 0} (a b : Qcow2 S F) → b.file.caches ≡ a.file.caches → KeepsHeldTables a.file.caches b.file.caches
+cached_same {S} a b same c = ap (λ (m : MetadataCaches S). option_map cleared_l2 (l2_at m c)) same
 
 module _ {S F : Type 0} {view : S → StorageView} where
   -- ---- parts that leave the header and the list the same
@@ -24,14 +31,23 @@ module _ {S F : Type 0} {view : S → StorageView} where
 
   -- ---- parts that also leave the allocator and the L1 table the same
   pub filling_none : {a : Qcow2 S F} → FillingStep view a a
-  filling_none = record { stays = (step_none {view = view}).stays; notes = notes_none; header_cluster = behind_none; header = refl; list = refl; allocator = refl; table = refl }
+  filling_none = record { stays = (step_none {view = view}).stays; notes = notes_none; header_cluster = behind_none; header = refl; list = refl; allocator = refl; table = refl; cached = λ c. refl }
 
-  pub filling_of_read : {a b : Qcow2 S F} → ReadingStep view a b → b.allocator ≡ a.allocator → b.l1_table ≡ a.l1_table → FillingStep view a b
-  filling_of_read read allocator table = record { stays = read.part.stays; notes = read.part.notes; header_cluster = read.part.header_cluster; header = read.header; list = read.list; allocator = allocator; table = table }
+  pub filling_of_read : {a b : Qcow2 S F} → ReadingStep view a b → b.allocator ≡ a.allocator → KeepsHeld a b → FillingStep view a b
+  filling_of_read {a} {b} read allocator held = record {
+    stays = read.part.stays;
+    notes = read.part.notes;
+    header_cluster = read.part.header_cluster;
+    header = read.header;
+    list = read.list;
+    allocator = allocator;
+    table = held.l1_table;
+    cached = cached_same a b held.caches;
+  }
 
   -- a write of data
   pub filling_written : {a b : Qcow2 S F} → ImageStep view a b → b ≡ record a { file = record a.file { storage = b.file.storage }; data_file = b.data_file } → FillingStep view a b
-  filling_written step rest = record {
+  filling_written {a} {b} step rest = record {
     stays = step.stays;
     notes = step.notes;
     header_cluster = step.header_cluster;
@@ -39,6 +55,7 @@ module _ {S F : Type 0} {view : S → StorageView} where
     list = ap (λ (i : Qcow2 S F). i.file.free_list) rest;
     allocator = ap (λ (i : Qcow2 S F). i.allocator) rest;
     table = ap (λ (i : Qcow2 S F). i.l1_table) rest;
+    cached = cached_same a b (ap (λ (i : Qcow2 S F). i.file.caches) rest);
   }
 
   -- a pin more
@@ -51,6 +68,7 @@ module _ {S F : Type 0} {view : S → StorageView} where
     list = ap (λ (i : Qcow2 S F). i.file.free_list) pins.rest;
     allocator = ap (λ (i : Qcow2 S F). i.allocator) pins.rest;
     table = ap (λ (i : Qcow2 S F). i.l1_table) pins.rest;
+    cached = λ c. ap (option_map cleared_l2) (pins.tables.l2_at c);
   }
 
   pub filling_then : {a b c : Qcow2 S F} → FillingStep view a b → FillingStep view b c → FillingStep view a c
@@ -62,17 +80,19 @@ module _ {S F : Type 0} {view : S → StorageView} where
     list = then.list ∙ first.list;
     allocator = then.allocator ∙ first.allocator;
     table = then.table ∙ first.table;
+    cached = λ c. then.cached c ∙ first.cached c;
   }
 
   -- ---- parts that may allocate clusters
-  pub taking_with : {a b : Qcow2 S F} → ImageStep view a b → b.file.header ≡ a.file.header → AllocatingStep view a b
-  taking_with {a} {b} step header = record { stays = step.stays; notes = step.notes; header_cluster = step.header_cluster; header = header_same a.file.header b.file.header header }
+  taking_with : {a b : Qcow2 S F} → ImageStep view a b → b.file.header ≡ a.file.header → b.file.caches ≡ a.file.caches → AllocatingStep view a b
+  taking_with {a} {b} step header caches =
+      record { stays = step.stays; notes = step.notes; header_cluster = step.header_cluster; header = header_same a.file.header b.file.header header; cached = cached_same a b caches }
 
   pub taking_none : {a : Qcow2 S F} → AllocatingStep view a a
-  taking_none = taking_with step_none refl
+  taking_none = taking_with step_none refl refl
 
   pub taking_of_filling : {a b : Qcow2 S F} → FillingStep view a b → AllocatingStep view a b
-  taking_of_filling {a} {b} part = record { stays = part.stays; notes = part.notes; header_cluster = part.header_cluster; header = header_same a.file.header b.file.header part.header }
+  taking_of_filling {a} {b} part = record { stays = part.stays; notes = part.notes; header_cluster = part.header_cluster; header = header_same a.file.header b.file.header part.header; cached = part.cached }
 
   -- clusters that wait to be freed
   pub taking_listed : (more : List ClustersToFreeEntry) {a b : Qcow2 S F} → FreesLater more a b → AllocatingStep view a b
@@ -91,7 +111,7 @@ module _ {S F : Type 0} {view : S → StorageView} where
         notes = same_kept a b (ap (λ (i : Qcow2 S F). i.file.storage) lists) (ap (λ (i : Qcow2 S F). i.file.caches) lists);
         header_cluster = behind_by view lists behind_none;
       })
-      (ap (λ (i : Qcow2 S F). i.file.header) lists)
+      (ap (λ (i : Qcow2 S F). i.file.header) lists) (ap (λ (i : Qcow2 S F). i.file.caches) lists)
 
   pub taking_then : {a b c : Qcow2 S F} → AllocatingStep view a b → AllocatingStep view b c → AllocatingStep view a c
   taking_then {a} {b} {c} first then = record {
@@ -99,6 +119,7 @@ module _ {S F : Type 0} {view : S → StorageView} where
     notes = notes_then first.notes then.notes;
     header_cluster = behind_then first.header_cluster then.header_cluster;
     header = header_then a.file.header b.file.header c.file.header first.header then.header;
+    cached = λ k. then.cached k ∙ first.cached k;
   }
 
   -- ---- under a condition

@@ -1,6 +1,6 @@
 -- Parts of preallocation, one after another.
 use Rattle.std.proofs.Common.{◌≡◌, ◌⊎◌, ◌+◌, ◌-◌, ◌%◌, ◌^◌, ◌<◌, ◌≤◌, ◌∷◌, ⊎_elim, inl, inr, ℕ, min, true, false, List, [], refl, sym, ap, ◌∙◌, subst, arith, IsTrue, Option, Result, Ok, Err}
-use Rattle.qcow2_image.proofs.Common.{GoesTo, BackingView, StorageView, HeaderFields, cluster_size, entries_per_cluster, rest_of_table, cases_lt, Guest, guest_of, EffectOnSound, with_disk, Disk, zeroed_between, GivenBytes, works_less, works_then, stops_as, known_in, ImageError, has_noted_change, RefusedCall, InternalCall, ClearsPart, IsUnderMapping, KeptZeros, Qcow2, Prepared, ImageInvariant, abstract_of, disk_of, pending_in, l1_index_of, KeepsL1Place, MovesTables, ChangesFree, FilledCovers, FillsOrRefuses, FillsPart, FillsSome, InterruptedGiving, IsUnderMappingIn, MayBeZero, RefusedFill, given_by_zeros, MayFail, MayFailIf, IsUnlimited, pow_pos, Mappings}
+use Rattle.qcow2_image.proofs.Common.{GoesTo, BackingView, StorageView, HeaderFields, cluster_size, entries_per_cluster, rest_of_table, cases_lt, Guest, guest_of, EffectOnSound, with_disk, Disk, zeroed_between, GivenBytes, works_less, works_then, stops_as, known_in, ImageError, has_noted_change, RefusedCall, InternalCall, ClearsPart, IsUnderMapping, KeptZeros, Qcow2, Prepared, ImageInvariant, abstract_of, disk_of, pending_in, l1_index_of, KeepsL1Place, MovesTables, ChangesFree, FilledCovers, FillsOrRefuses, FillsPart, FillsSome, InterruptedGiving, IsUnderMappingIn, MayBeZero, RefusedFill, given_by_zeros, MayFail, MayFailIf, IsUnlimited, pow_pos, Mappings, Causes}
 use Rattle.qcow2_alloc.specs.ImageError.{IsFault as FaultOfTables}
 use Rattle.qcow2_alloc.specs.declared.error.ImageError.TheVariants as I
 use Rattle.qcow2_image.proofs.Call.Called.{works_none}
@@ -16,8 +16,8 @@ use Rattle.qcow2_image.proofs.Preallocate.Zeros.{may_none, may_then, may_wider, 
 use Rattle.qcow2_image.proofs.Images.UngivenCovers.{touches_part}
 
 -- a refusal that comes during the work is not 9
-pub met_taken : {A : Type 0} (unaligned : Type 0) (e : ImageError) → MayFailIf unaligned e → e ≡ I.TablePrepared → A
-met_taken unaligned e may_fail is = absurd (subst (MayFailIf unaligned) is may_fail)
+pub met_taken : {A : Type 0} (causes : Causes) (e : ImageError) → MayFailIf causes e → e ≡ I.TablePrepared → A
+met_taken causes e may_fail is = absurd (subst (MayFailIf causes) is may_fail)
 
 -- a prepared table of a part is one of the whole, by the header before
 pub taken_wider : (h h' : HeaderFields) (from to from' to' : ℕ) (out : Mappings) → MovesTables h h' → from' ≤ from → to ≤ to' → IsUnderMappingIn h' from to out → IsUnderMappingIn h from' to' out

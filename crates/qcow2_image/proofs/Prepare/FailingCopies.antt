@@ -1,11 +1,13 @@
 -- Why copying, and allocating a first cluster, are refused: for a fault, a limit, or compressed data.
 use Rattle.std.proofs.Common.{◌≡◌, ◌⊎◌, ◌+◌, ◌-◌, ◌*◌, ◌/◌, ◌%◌, ◌^◌, ◌<◌, ◌≤◌, inl, inr, ℕ, Bool, true, List, Option, Some, None, Result, Ok, Err, refl, sym, ap, ◌∙◌, subst, arith, IfErr, IsErr, IsErrAnd}
-use Rattle.qcow2_image.proofs.Common.{cases_lt, div-add-mod', div-mul-add, mod-mul-add, mul-le, pow-add, pow_pos, BackingView, StorageView, Bytes, cover, cluster_size, named_for_tables, HeaderFields, L2Mapping, Data, Zero, Compressed, Uncovered, Kind, special, kind_at, IsCompressed, Pending, Hosting, IsHostedAt, DriverState, StateInvariant, in_own, beside_tables, shares, IsFault, known_in, state_in, IsFaultOr, ImageError, handed_on, own_cluster, found_kind, ImageInvariant, MayFailAlone, MayFailMapped, MayFailReading, IsSpecial, IsFaultOrLimit, Qcow2, MappingKind, Prepared, MayFailOn, MayFailCopying, Mappings}
+use Rattle.qcow2_image.proofs.Common.{cases_lt, div-add-mod', div-mul-add, mod-mul-add, mul-le, pow-add, pow_pos, BackingView, StorageView, Bytes, cover, cluster_size, named_for_tables, HeaderFields, L2Mapping, Data, Zero, Compressed, Uncovered, Kind, special, kind_at, IsCompressed, Pending, Hosting, IsHostedAt, DriverState, StateInvariant, in_own, beside_tables, shares, IsFault, known_in, state_in, IsFaultOr, ImageError, handed_on, own_cluster, found_kind, ImageInvariant, MayFailAlone, MayFailMapped, MayFailReading, IsSpecial, IsFaultOrLimit, Qcow2, MappingKind, Prepared, MayFailOn, MayFailCopying, Mappings, MayFailFilling}
 use Rattle.std.specs.Prelude.{SomeIff}
+use Rattle.qcow2_alloc.specs.KeptMarks.{KeepsHeldTables}
 use Rattle.qcow2_laws.specs.GuestLaws.{Kept as HostedKept, Held as HostedHeld}
 use Rattle.qcow2_alloc.specs.declared.error.ImageError.TheVariants as I
 use Rattle.qcow2_image.specs.declared.mapping.MappingKind.TheVariants as M
 use Rattle.qcow2_image.proofs.Call.BehindHeader.{behind_first}
+use Rattle.qcow2_image.proofs.Call.FailingErrors.{met_with}
 use Rattle.qcow2_image.proofs.Map.Looked.{never_past}
 use Rattle.qcow2_image.specs.Found.{kind_in}
 use Rattle.qcow2_image.proofs.Images.Places.{inside_of}
@@ -61,8 +63,9 @@ reading_met h beside backed offset mapping kind is e why = elim why [
 ]
 
 -- so the bytes of a guest cluster never lie past the end
-pub copying_met : {S F : Type 0} (new : Qcow2 S F) (h : HeaderFields) (beside backed : Bool) (offset : ℕ) (mapping : L2Mapping) (kind : MappingKind) → found_kind kind ≡ kind_in h beside backed offset mapping → (e : ImageError) → MayFailCopying new kind e → MayFailOn new e
-copying_met new h beside backed offset mapping kind is e why = elim why [ inl may_fail ↦ may_fail | inr past ↦ absurd (never_past h beside backed offset mapping (sym (ap found_kind past.1) ∙ is)) ]
+pub copying_met : {S F : Type 0} (old new : Qcow2 S F) (h : HeaderFields) (beside backed : Bool) (offset : ℕ) (mapping : L2Mapping) (kind : MappingKind) → found_kind kind ≡ kind_in h beside backed offset mapping → KeepsHeldTables old.file.caches new.file.caches → (e : ImageError) → MayFailCopying new kind e
+    → MayFailFilling old new mapping e
+copying_met old new h beside backed offset mapping kind is keeps e why = elim why [ inl may_fail ↦ met_with new (λ special. record { compressed = special_in h beside backed offset mapping (subst IsSpecialKind is (found_special kind special)); tables = keeps }) e may_fail | inr past ↦ absurd (never_past h beside backed offset mapping (sym (ap found_kind past.1) ∙ is)) ]
 
 -- bytes that were looked up before are read so too
 pub mapped_met : (held : Type 0) (kind : MappingKind) {whole : Type 0} → whole → (e : ImageError) → MayFailReading kind e → MayFailMapped held kind whole e

@@ -1,6 +1,6 @@
 -- Whether an L2 table of the image's own is pinned, as a call finds it.
 use Rattle.std.proofs.Common.{◌≡◌, ◌+◌, ◌*◌, ◌/◌, ◌^◌, ◌<◌, ◌≤◌, ◌&&◌, inl, inr, ℕ, Bool, true, false, Option, Some, None, IfOk, IsSome, refl, nat_lt, sym, ap, ◌∙◌, subst, arith, Ok, Err, Result, IfErr, IsErr, IsErrAnd}
-use Rattle.qcow2_image.proofs.Common.{OnOk, div-mul-add, pow_pos, l2_pins, MetadataCaches, ImageError, TablePrepared, IsFaultOrLimit, handed_on, Qcow2, Prepared, IsBegun, EntryTableView, HeaderView, host_offset, entry_at, cluster_size, l1_index_of, NamesOwn, ExistsInTables, table_of, refuse_if, option_or, passes, unusable, is_writable, size_of, refuses_to_prepare, not, cases_lt, lt-ltb, HasOwnTable, FindsOwn, RespectsPins, PreparesUnpinned, own_pins, own_table, MayFailIf}
+use Rattle.qcow2_image.proofs.Common.{Causes, OnOk, div-mul-add, pow_pos, l2_pins, MetadataCaches, ImageError, TablePrepared, IsFaultOrLimit, handed_on, Qcow2, Prepared, IsBegun, EntryTableView, HeaderView, host_offset, entry_at, cluster_size, l1_index_of, NamesOwn, ExistsInTables, table_of, refuse_if, option_or, passes, unusable, is_writable, size_of, refuses_to_prepare, not, cases_lt, lt-ltb, HasOwnTable, FindsOwn, RespectsPins, PreparesUnpinned, own_pins, own_table, MayFailIf}
 use Rattle.qcow2_alloc.specs.declared.error.ImageError.TheVariants as I
 
 pub whole_quotient : (k c o : ℕ) → c * 2 ^ k ≡ o → c ≡ o / 2 ^ k
@@ -9,8 +9,8 @@ whole_quotient k c o is =
     sym (sym (ap (λ x. x / 2 ^ k) whole) ∙ div-mul-add c (2 ^ k) 0 (pow_pos k))
 
 -- a refusal that comes during the work is not 9
-pub met_untaken : (unaligned : Type 0) (e : ImageError) → MayFailIf unaligned e → e ≡ TablePrepared → ⊥
-met_untaken unaligned e may_fail is = subst (MayFailIf unaligned) is may_fail
+pub met_untaken : (causes : Causes) (e : ImageError) → MayFailIf causes e → e ≡ TablePrepared → ⊥
+met_untaken causes e may_fail is = subst (MayFailIf causes) is may_fail
 
 pub freed_untaken : (e : ImageError) → IsFaultOrLimit e → e ≡ TablePrepared → ⊥
 freed_untaken e (inl (inl storage)) is = let bad = sym storage ∙ is in cc

@@ -5,7 +5,7 @@ use Rattle.qcow2_alloc.proofs.MadeClusters.{none_used}
 use Rattle.qcow2_image.proofs.image.Qcow2.allocate_data_cluster_at.Goals as goal
 
 pub returns-clause-step : goal.returns-clause-step
-returns-clause-step g c = record { stays = search rules; notes = (notes_of_both c.allocate_data_at.ensures.step.marks.pins c.allocate_data_at.ensures.step.marks.notes); header_cluster = behind_allocated c.in-Some.is c.allocate_data_at.ensures.step.header_cluster; header = c.allocate_data_at.ensures.step.header }
+returns-clause-step g c = record { stays = search rules; notes = (notes_of_both c.allocate_data_at.ensures.step.marks.pins c.allocate_data_at.ensures.step.marks.notes); header_cluster = behind_allocated c.in-Some.is c.allocate_data_at.ensures.step.header_cluster; header = c.allocate_data_at.ensures.step.header; cached = c.allocate_data_at.ensures.step.marks.tables }
 
 pub returns-clause-sound : goal.returns-clause-sound
 returns-clause-sound g c = λ p out sound holds.

@@ -1,8 +1,10 @@
 use Rattle.qcow2_image.proofs.Call.DataFiles.{none_by_guest}
-use Rattle.qcow2_image.proofs.Lemmas.{filling_written, taking_none, taking_of_filling, back_refused, listed_after_same, behind_in_place, ends_elsewhere, finds_shared, next_cluster, next_says, hands_limit, limited_taking, limits_as, other_limit, kept_behind, hands_alone, alone_as, guest_fits, next_reads, place_aligned, place_fits}
+use Rattle.qcow2_image.proofs.Lemmas.{filling_written, taking_none, taking_of_filling, back_refused, listed_after_same, behind_in_place, ends_elsewhere, finds_shared, next_cluster, next_says, hands_limit, limited_taking, limits_as, other_limit, kept_behind, hands_alone, alone_as, guest_fits, next_reads, place_aligned, place_fits, hands_met, met_as}
 use Rattle.std.proofs.Common.{◌≡◌, ◌+◌, ◌-◌, ◌/◌, ◌^◌, ◌%◌, Some, true, false, arith, inl, refl, sym, ap, ◌∙◌, subst, rules}
-use Rattle.qcow2_image.proofs.Common.{cluster_size, Data, Zero, pending_in, l1_index_of, cover, handed_on, known_in, Qcow2, FindsBehind, ClusterMappingsAt, IsFilled, IsKeptAlone, InternalFillingStep, IsCompressed, HasUnannounced, IsCopiedCompressed, IfErr-weaker}
+use Rattle.qcow2_image.proofs.Common.{cluster_size, Data, Zero, pending_in, l1_index_of, cover, handed_on, known_in, Qcow2, FindsBehind, ClusterMappingsAt, IsFilled, IsKeptAlone, InternalFillingStep, IsCompressed, HasUnannounced, IsCopiedCompressed, IfErr-weaker, HasCompressedCached, MayFailFilling, MayFailOn}
 use Rattle.qcow2_image.proofs.Prepare.KeptMappings.{behind_alone, behind_kept}
+use Rattle.qcow2_image.proofs.Call.FailingErrors.{uncopied_met}
+use Rattle.qcow2_image.proofs.Call.KeptOffsets.{filling_held}
 use Rattle.qcow2_image.proofs.image.Qcow2.cluster_mapping_behind.Goals as goal
 use Rattle.qcow2_image.proofs.Images.Places.{alone_of, inside_of}
 
@@ -162,3 +164,24 @@ returns-in_default-checked_add-clause-sound g c = λ out k at may sound.
 
 pub returns-in-None-2-clause-sound : goal.returns-in-None-2-clause-sound
 returns-in-None-2-clause-sound g c = λ out k at may sound. absurd (none_by_guest c.args.self.now (alone_of sound) (sym c.is_placed_by_guest.ensures ∙ c.if-is_placed_by_guest.true))
+
+pub returns-in_err-fill_kept-in-None-clause-fails : goal.returns-in_err-fill_kept-in-None-clause-fails
+returns-in_err-fill_kept-in-None-clause-fails g c = record {
+  faults = search rules;
+  cause = hands_met (MayFailOn c.fill_kept.new.self) c.from_residual-in_err-fill_kept-in-None.result c.in_err-fill_kept-in-None.field-0.0 c.from_residual-in_err-fill_kept-in-None.ensures
+      (uncopied_met c.fill_kept.new.self (HasCompressedCached c.fill_kept.new.self.file.caches) c.in_err-fill_kept-in-None.field-0.0 c.in_err-fill_kept-in-None.ensures.fails.cause);
+}
+
+pub returns-in-None-2-clause-fails : goal.returns-in-None-2-clause-fails
+returns-in-None-2-clause-fails g c = record {
+  faults = c.cluster_mapping_at_guest.ensures.fails.faults;
+  cause = met_as (MayFailFilling c.args.self.now c.cluster_mapping_at_guest.new.self c.in_ok-old.old) (MayFailOn c.cluster_mapping_at_guest.new.self) c.cluster_mapping_at_guest.result
+      (filling_held c.args.self.now c.cluster_mapping_at_guest.new.self c.in_ok-old.old c.in_ok-old.ensures.held) c.cluster_mapping_at_guest.ensures.fails.cause;
+}
+
+pub returns-in-None-3-clause-fails : goal.returns-in-None-3-clause-fails
+returns-in-None-3-clause-fails g c = record {
+  faults = c.cluster_mapping_at.ensures.fails.faults;
+  cause = met_as (MayFailFilling c.args.self.now c.cluster_mapping_at.new.self c.in_ok-old.old) (MayFailOn c.cluster_mapping_at.new.self) c.cluster_mapping_at.result
+      (filling_held c.args.self.now c.cluster_mapping_at.new.self c.in_ok-old.old c.in_ok-old.ensures.held) c.cluster_mapping_at.ensures.fails.cause;
+}

@@ -1,7 +1,7 @@
 use Rattle.std.proofs.Common.{◌≡◌, ◌+◌, ◌/◌, ◌≤◌, ℕ, List, length, replicate, refl, sym, ap, ◌∙◌, subst, arith, rules, is_some, inl}
-use Rattle.qcow2_image.proofs.Common.{length-replicate, get_or-replicate, cover, known_byte, cluster_size, HeaderView, Disk, known_in, state_in, found_kind, IsMappedAs, backing_bytes, MayFailOn, MayFailCopying, MayFailReading, MayFailWriting, IsFault, IfOk-weaker, contents_for, IfOk, byte_at}
+use Rattle.qcow2_image.proofs.Common.{length-replicate, get_or-replicate, cover, known_byte, cluster_size, HeaderView, Disk, known_in, state_in, found_kind, IsMappedAs, backing_bytes, MayFailOn, MayFailCopying, MayFailReading, MayFailWriting, IsFault, IfOk-weaker, contents_for, IfOk, byte_at, IsSpecial, MayFailUncopied}
 use Rattle.qcow2_image.specs.InternalSteps.{IsCopied}
-use Rattle.qcow2_image.proofs.Call.FailingErrors.{reading_copied, writing_met}
+use Rattle.qcow2_image.proofs.Call.FailingErrors.{reading_copied, writing_met, uncopied_met}
 use Rattle.qcow2_image.proofs.Map.Reading.{none_below, zero_shown}
 use Rattle.qcow2_image.proofs.Lemmas.{disk_kept, image_step_data, image_step_kept, image_step_then, own_of, there_written, hands_unlimited, hands_met, met_as, filling_of_read, filling_then, filling_written}
 use Rattle.qcow2_image.proofs.image.Qcow2.copy_old.Goals as goal
@@ -76,7 +76,7 @@ pub returns-in-Zero-clause-step : goal.returns-in-Zero-clause-step
 returns-in-Zero-clause-step g c = filling_written c.write_zeros.ensures.step c.write_zeros.ensures.puts.rest
 
 pub returns-in_err-read_as-clause-step : goal.returns-in_err-read_as-clause-step
-returns-in_err-read_as-clause-step g c = filling_of_read c.read_as.ensures.step c.read_as.ensures.allocator c.read_as.ensures.tables.l1_table
+returns-in_err-read_as-clause-step g c = filling_of_read c.read_as.ensures.step c.read_as.ensures.allocator c.read_as.ensures.tables
 
 pub returns-in_err-read_as-clause-fails : goal.returns-in_err-read_as-clause-fails
 returns-in_err-read_as-clause-fails g c = record {
@@ -86,7 +86,7 @@ returns-in_err-read_as-clause-fails g c = record {
 }
 
 pub returns-clause-step : goal.returns-clause-step
-returns-clause-step g c = filling_then (filling_of_read c.read_as.ensures.step c.read_as.ensures.allocator c.read_as.ensures.tables.l1_table) (filling_written c.write_data.ensures.step c.write_data.ensures.puts.rest)
+returns-clause-step g c = filling_then (filling_of_read c.read_as.ensures.step c.read_as.ensures.allocator c.read_as.ensures.tables) (filling_written c.write_data.ensures.step c.write_data.ensures.puts.rest)
 
 pub returns-clause-fails : goal.returns-clause-fails
 returns-clause-fails g c = record {
@@ -98,6 +98,6 @@ returns-clause-fails g c = record {
 pub returns-in-Zero-clause-fails : goal.returns-in-Zero-clause-fails
 returns-in-Zero-clause-fails g c = record {
   faults = search rules;
-  cause = met_as (MayFailOn c.write_zeros.new.self) (MayFailCopying c.write_zeros.new.self c.args.kind.now) c.write_zeros.result (λ e why. inl why) c.write_zeros.ensures.fails.cause;
+  cause = met_as (MayFailUncopied c.write_zeros.new.self) (MayFailCopying c.write_zeros.new.self c.args.kind.now) c.write_zeros.result (λ e why. inl (uncopied_met c.write_zeros.new.self (IsSpecial c.args.kind.now) e why)) c.write_zeros.ensures.fails.cause;
   limited = search rules;
 }

@@ -1,5 +1,5 @@
 use Rattle.std.proofs.Common.{◌≡◌, ℕ, Bool, sym, ◌∙◌, subst, false, true, IsTrue}
-use Rattle.qcow2_image.proofs.Common.{cover, cluster_size, L2Mapping, known_in, MarkedIsBehind}
+use Rattle.qcow2_image.proofs.Common.{cover, cluster_size, L2Mapping, known_in, MarkedIsBehind, IsCompressed}
 use Rattle.qcow2_image.proofs.Prepare.MarkedPlaces.{marked_behind}
 use Rattle.qcow2_image.proofs.Map.Looked.{cached_says}
 use Rattle.qcow2_image.proofs.Map.Aligned.{cached_aligned}
@@ -27,3 +27,7 @@ returns-then-not-is_behind_header-clause-reads g c = λ p i sound inside at here
 pub returns-in_err-mapping-clause-reads : goal.returns-in_err-mapping-clause-reads
 returns-in_err-mapping-clause-reads g c = λ p i sound inside at here some.
     absurd (c.in_err-mapping.ensures.err.1 (cached_aligned g.S.Storage.view c.args.self.now.file p c.in-Some.held.now c.args.table i c.args.cluster sound c.in-Some.ensures.shows at here))
+
+pub returns-clause-held : goal.returns-clause-held
+returns-clause-held g c = λ compressed.
+    record { cluster = c.args.table; table = c.in-Some.held.now; is = sym c.in-Some.ensures.value; guest = c.args.cluster; compressed = subst IsCompressed c.in_ok-mapping.ensures.ok compressed }

@@ -1,6 +1,6 @@
 use Rattle.std.proofs.Common.{◌≡◌, ◌+◌, ◌-◌, ◌*◌, ◌/◌, ◌%◌, ◌^◌, ◌<◌, ◌⊎◌, ◌≤◌, ℕ, sym, ap, ◌∙◌, arith, is_some, inl, inr, rules}
 use Rattle.qcow2_image.proofs.Map.Looked.{kind_alone}
-use Rattle.qcow2_image.proofs.Common.{is_beside, div-mul-add, div-add-mod', cluster_size, contents_in, known_in, IsMappedAs, disk_of, cover, known_byte, kind_at, IsFault, IsCopiedCompressed, MayFailCopying, MayFailOn, MayFailReading, IfOk-weaker, contents_for}
+use Rattle.qcow2_image.proofs.Common.{is_beside, div-mul-add, div-add-mod', cluster_size, contents_in, known_in, IsMappedAs, disk_of, cover, known_byte, kind_at, IsFault, IsCopiedCompressed, MayFailCopying, MayFailOn, MayFailReading, IfOk-weaker, contents_for, MayFailFilling}
 use Rattle.qcow2_image.proofs.Prepare.CopiedBytes.{none_has, some_has}
 use Rattle.qcow2_image.proofs.Lemmas.{copying_met, alike_within, image_step_none, behind_start, met_as, reading_met, told_sum, within_cluster, filling_none}
 use Rattle.qcow2_alloc.specs.declared.error.ImageError.TheVariants as I
@@ -94,7 +94,7 @@ returns-in_default-checked_add-clause-step g c = filling_none
 pub returns-clause-fails : goal.returns-clause-fails
 returns-clause-fails g c = record {
   faults = search rules;
-  cause = met_as (MayFailCopying c.copy_old.new.self c.kind_of-kind.result) (MayFailOn c.copy_old.new.self) c.copy_old.result
-      (copying_met c.copy_old.new.self c.args.self.now.file.header.fields (is_beside c.args.self.now) (is_some c.args.self.now.backing) c.in-Some-checked_add.guest c.args.old.now c.kind_of-kind.result c.kind_of-kind.ensures.value) c.copy_old.ensures.fails.cause;
+  cause = met_as (MayFailCopying c.copy_old.new.self c.kind_of-kind.result) (MayFailFilling c.args.self.now c.copy_old.new.self c.args.old.now) c.copy_old.result
+      (copying_met c.args.self.now c.copy_old.new.self c.args.self.now.file.header.fields (is_beside c.args.self.now) (is_some c.args.self.now.backing) c.in-Some-checked_add.guest c.args.old.now c.kind_of-kind.result c.kind_of-kind.ensures.value c.copy_old.ensures.step.cached) c.copy_old.ensures.fails.cause;
   limited = search rules;
 }

@@ -1,6 +1,8 @@
 use Rattle.std.proofs.Common.{◌≡◌, ◌/◌, ◌<◌, inl, sym, ap, ◌∙◌, subst, rules, Ok}
-use Rattle.qcow2_image.proofs.Common.{handed_on, cover, cluster_size, Guest, with_new_data, cover_format, size_format, known_in, Qcow2, AllocatesDataAt, GainsAt, InternalFillingStep, RefusedFillingStep, IsGained, pending_with_listed, run_of, new_data_by, over_all, IsCopiedCompressed, MayFailOn}
-use Rattle.qcow2_image.proofs.Lemmas.{listed_after_on, image_step_left, taken_new_data, taken_unused, still_holds, filled_as, image_step_then, hands_limit, other_limit, copied_as, filling_met, new_behind, hands_alone, taking_listed, taking_of_filling, taking_then}
+use Rattle.qcow2_image.proofs.Common.{handed_on, cover, cluster_size, Guest, with_new_data, cover_format, size_format, known_in, Qcow2, AllocatesDataAt, GainsAt, InternalFillingStep, RefusedFillingStep, IsGained, pending_with_listed, run_of, new_data_by, over_all, IsCopiedCompressed, IsCompressedStill, MayFailFilling}
+use Rattle.qcow2_image.proofs.Lemmas.{listed_after_on, image_step_left, taken_new_data, taken_unused, still_holds, filled_as, image_step_then, hands_limit, other_limit, copied_as, filling_met, new_behind, hands_alone, taking_listed, taking_of_filling, taking_then, hands_met}
+use Rattle.qcow2_image.proofs.Call.FailingErrors.{uncopied_met}
+use Rattle.qcow2_image.proofs.Call.KeptOffsets.{filling_since}
 use Rattle.qcow2_image.proofs.image.Qcow2.new_cluster_at.Goals as goal
 
 pub returns-in-Ok-clause-step : goal.returns-in-Ok-clause-step
@@ -86,6 +88,14 @@ returns-in_err-pending-clause-sound g c = λ p out sound holds.
 
 pub returns-in-Err-clause-fails : goal.returns-in-Err-clause-fails
 returns-in-Err-clause-fails g c = record {
-  cause = subst (λ (image : Qcow2 _ _). MayFailOn image c.in-Err.refusal) (sym c.hand_back.ensures) c.in-Err.ensures.fails.cause;
+  cause = subst (λ (image : Qcow2 _ _). MayFailFilling c.args.self.now image c.args.old.now c.in-Err.refusal) (sym c.hand_back.ensures)
+      (filling_since c.args.self.now c.allocate_data_cluster_at.new.self c.fill_cluster.new.self c.args.old.now c.allocate_data_cluster_at.ensures.step.cached c.in-Err.refusal c.in-Err.ensures.fails.cause);
   faults = search rules;
+}
+
+pub returns-in_err-pending-clause-fails : goal.returns-in_err-pending-clause-fails
+returns-in_err-pending-clause-fails g c = record {
+  faults = search rules;
+  cause = hands_met (MayFailFilling c.args.self.now c.allocate_data_cluster_at.new.self c.args.old.now) c.from_residual.result c.in_err-pending.field-0.0 c.from_residual.ensures
+      (uncopied_met c.allocate_data_cluster_at.new.self (IsCompressedStill c.args.self.now.file.caches c.allocate_data_cluster_at.new.self.file.caches c.args.old.now) c.in_err-pending.field-0.0 c.in_err-pending.ensures.fails.cause);
 }

@@ -1,6 +1,7 @@
-use Rattle.qcow2_image.proofs.Lemmas.{filling_pinned, taking_none, taking_of_filling, taking_where, no_pins, hands_limit, other_limit, taking_as}
+use Rattle.qcow2_image.proofs.Lemmas.{filling_pinned, taking_none, taking_of_filling, taking_where, no_pins, hands_limit, other_limit, taking_as, met_as}
 use Rattle.std.proofs.Common.{◌/◌, ◌≡◌, ◌≤◌, rules, refl, sym, ap, ◌∙◌, subst, List, length, true, false, inr, arith}
-use Rattle.qcow2_image.proofs.Common.{BeginsSoundly, MarkedIsBehind, cover, vec_capacity, ClusterMapping, cluster_size, L2Mapping, known_in, handed_on, Prepared, l1_index_of, IsReadied, Readies, pending_in, IsFirst, always_ok, l2_pins, IfOk-weaker, IfErr-weaker}
+use Rattle.qcow2_image.proofs.Common.{BeginsSoundly, MarkedIsBehind, cover, vec_capacity, ClusterMapping, cluster_size, L2Mapping, known_in, handed_on, Prepared, l1_index_of, IsReadied, Readies, pending_in, IsFirst, always_ok, l2_pins, IfOk-weaker, IfErr-weaker, inl, MayFailFilling, MayFailPreparing}
+use Rattle.qcow2_image.proofs.Call.KeptOffsets.{filling_held}
 use Rattle.qcow2_image.proofs.image.Qcow2.prepare_first.Goals as goal
 use Rattle.qcow2_image.proofs.Prepare.KeptMappings.{data_keep_none}
 use Rattle.qcow2_image.proofs.Prepare.RangeByParts.{room_as}
@@ -126,3 +127,10 @@ prepare_private-requires-clause-other g c = record { reach = c.in_ok-old.ensures
 
 pub returns-then-l2_is_pinned-clause-fails : goal.returns-then-l2_is_pinned-clause-fails
 returns-then-l2_is_pinned-clause-fails g c = record { faults = search rules; cause = inr (refl, record { cluster = c.args.table; pins = c.l2_is_pinned.ensures.0 c.if-l2_is_pinned.true }) }
+
+pub returns-in-None-clause-fails : goal.returns-in-None-clause-fails
+returns-in-None-clause-fails g c = record {
+  faults = c.prepare_private.ensures.fails.faults;
+  cause = met_as (MayFailFilling c.args.self.now c.prepare_private.new.self c.in_ok-old.old) (MayFailPreparing c.prepare_private.new.self) c.prepare_private.result
+      (λ e met. inl (filling_held c.args.self.now c.prepare_private.new.self c.in_ok-old.old c.in_ok-old.ensures.held e met)) c.prepare_private.ensures.fails.cause;
+}

@@ -1,4 +1,4 @@
-use Rattle.qcow2_image.proofs.Lemmas.{taking_where, taking_with, where_then, back_refused, free_places, counted_as, counted_still, step_none, goes_step, hands_limit, limited_from, places_enter, alone_as, compressed_as, compressed_at, hands_met, taking_as}
+use Rattle.qcow2_image.proofs.Lemmas.{taking_where, where_then, where_with, back_refused, free_places, counted_as, counted_still, step_none, goes_step, hands_limit, limited_from, places_enter, alone_as, compressed_as, compressed_at, hands_met, taking_as}
 use Rattle.qcow2_image.proofs.Call.KeptOffsets.{met_kept, released_offsets}
 use Rattle.qcow2_image.proofs.image.Qcow2.prepare_in.Goals as goal
 use Rattle.std.proofs.Common.{◌≡◌, ◌+◌, ◌-◌, ◌/◌, ◌%◌, ◌∷◌, ◌<◌, [], refl, sym, ap, ◌∙◌, subst, arith, inl, rules, None, Err, ℕ, Option, IsSome}
@@ -41,7 +41,7 @@ returns-in-Ok-clause-some g c =
     record { some = (let rest = first.rest in let more = longer.more in omega (arith, within)); behind = λ none. let begins = c.in_ok-prepared.ensures.begins.behind (sym (c.prepare_rest.ensures.step.stays.image.beside ∙ c.prepare_first.ensures.step.stays.image.beside) ∙ none) in let place = longer.place in omega (arith, size) }
 
 pub returns-in-Err-clause-step : goal.returns-in-Err-clause-step
-returns-in-Err-clause-step g c = where_then (where_then c.prepare_first.ensures.step (taking_where c.prepare_rest.ensures.step)) (taking_where (taking_with c.release_prepared.ensures.step c.release_prepared.ensures.header))
+returns-in-Err-clause-step g c = where_then (where_then c.prepare_first.ensures.step (taking_where c.prepare_rest.ensures.step)) (where_with (record { stays = c.release_prepared.ensures.step.stays; notes = c.release_prepared.ensures.step.notes; header_cluster = λ _. c.release_prepared.ensures.step.header_cluster }) c.release_prepared.ensures.header)
 
 pub returns-in-Err-clause-fails : goal.returns-in-Err-clause-fails
 returns-in-Err-clause-fails g c = record {

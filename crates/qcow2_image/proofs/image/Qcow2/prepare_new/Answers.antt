@@ -1,9 +1,10 @@
 use Rattle.qcow2_image.proofs.Call.ImageSteps.{stays_then}
 use Rattle.qcow2_image.proofs.Call.DataFiles.{own_since}
 use Rattle.qcow2_image.proofs.Lemmas.{filling_pinned, taking_listed, taking_none, taking_of_filling, taking_where, where_then, where_with, looking_unlimited, fault_unlimited, listed_after_on, image_step_left, still_holds, image_step_kept, image_step_then, behind_zero, hands_limit, limited_more, limited_taking, other_limit, named_place, hands_met, looking_taking}
+use Rattle.qcow2_image.proofs.Call.FailingErrors.{uncopied_met}
+use Rattle.qcow2_image.proofs.Common.{IsCompressedStill, MayFailFilling, HeaderFields, cluster_size, HeaderView, KeepsFormat, header_format, with_new_data, handed_on, Qcow2, Prepared, Readies, IsReadied, ClusterMapping, IsFirst, RefusedFillingStep, InternalFillingStep, HoldsAll, pending_with_listed, run_of, pending_in, HasPlace, known_in, l1_index_of, IsCopiedCompressed, MayFailAllocating, HasPinnedMapping}
 use Rattle.qcow2_image.proofs.image.Qcow2.prepare_new.Goals as goal
 use Rattle.std.proofs.Common.{◌≡◌, ◌≤◌, ◌-◌, ◌*◌, ◌%◌, ◌^◌, ◌++◌, ◌∷◌, rules, [], inl, refl, sym, ap, ◌∙◌, subst, arith, List, length}
-use Rattle.qcow2_image.proofs.Common.{HeaderFields, cluster_size, HeaderView, KeepsFormat, header_format, with_new_data, handed_on, Qcow2, Prepared, Readies, IsReadied, ClusterMapping, IsFirst, RefusedFillingStep, InternalFillingStep, HoldsAll, pending_with_listed, run_of, pending_in, HasPlace, known_in, l1_index_of, IsCopiedCompressed, MayFailAllocating, HasPinnedMapping, MayFailOn}
 use Rattle.qcow2_image.proofs.Prepare.WritableL2Table.{refused as any_refusal}
 use Rattle.qcow2_image.proofs.Prepare.NewCluster.{back_none, readied_new}
 
@@ -118,6 +119,7 @@ returns-in-Err-clause-sound g c = λ out sound holds unpinned covered.
 
 pub returns-in-Err-clause-fails : goal.returns-in-Err-clause-fails
 returns-in-Err-clause-fails g c = record {
-  cause = subst (λ (image : Qcow2 _ _). MayFailOn image c.in-Err.refusal) (sym c.hand_back-in-Err.ensures) c.in-Err.ensures.fails.cause;
+  cause = subst (λ (image : Qcow2 _ _). MayFailFilling c.args.self.now image c.args.old.now c.in-Err.refusal) (sym c.hand_back-in-Err.ensures)
+      (uncopied_met c.load_l2.new.self (IsCompressedStill c.args.self.now.file.caches c.load_l2.new.self.file.caches c.args.old.now) c.in-Err.refusal c.in-Err.ensures.fails.cause);
   faults = search rules;
 }

@@ -1,5 +1,6 @@
-use Rattle.qcow2_image.proofs.Lemmas.{taking_of_filling, taking_where, if_ok_any}
-use Rattle.qcow2_image.proofs.Common.{L2Mapping, BeginsSoundly, refl, ◌∙◌, subst, sym, IfOk-weaker}
+use Rattle.qcow2_image.proofs.Lemmas.{taking_of_filling, taking_where, if_ok_any, met_as}
+use Rattle.qcow2_image.proofs.Common.{L2Mapping, BeginsSoundly, refl, ◌∙◌, subst, sym, IfOk-weaker, IsCompressedStill, MayFailFilling, MayFailUncopied}
+use Rattle.qcow2_image.proofs.Call.FailingErrors.{uncopied_met}
 use Rattle.qcow2_image.proofs.image.Qcow2.prepare_private.Goals as goal
 use Rattle.qcow2_image.proofs.Prepare.KeptMappings.{begins_kept}
 
@@ -19,3 +20,10 @@ returns-in-None-2-clause-kept g c = if_ok_any c.prepare_new.result (λ p host at
 
 pub returns-in-Some-clause-step : goal.returns-in-Some-clause-step
 returns-in-Some-clause-step g c = taking_where (taking_of_filling c.prepare_kept.ensures.step)
+
+pub returns-in-Some-clause-fails : goal.returns-in-Some-clause-fails
+returns-in-Some-clause-fails g c = record {
+  faults = c.prepare_kept.ensures.fails.faults;
+  cause = met_as (MayFailUncopied c.prepare_kept.new.self) (MayFailFilling c.args.self.now c.prepare_kept.new.self c.args.old.now) c.prepare_kept.result
+      (uncopied_met c.prepare_kept.new.self (IsCompressedStill c.args.self.now.file.caches c.prepare_kept.new.self.file.caches c.args.old.now)) c.prepare_kept.ensures.fails.cause;
+}
